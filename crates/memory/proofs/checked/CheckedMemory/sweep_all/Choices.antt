@@ -1,0 +1,11 @@
+use mathlib.Core.Path.{_≡_}
+use Rattle.std.specs.declared.result.Result.the-variants.{Ok}
+use Rattle.memory_laws.specs.Checked.{plain, swept}
+use Rattle.memory.specs.View.{view}
+use Rattle.memory.proofs.checked.CheckedMemory.sweep_all.Given as given
+
+abbrev pub Inv-loop-cell : given.InvT-loop-cell
+Inv-loop-cell g l =
+    let f = g .S·Store .state in
+    (l .self .clock ≡ l .entry .self .clock) ×
+    (swept (plain (g .S·Store .meaning)) (g .T·Tally .tallying) (l .cell) (view f (l .entry .self)) ≡ (Ok (l .fresh), view f (l .self)))

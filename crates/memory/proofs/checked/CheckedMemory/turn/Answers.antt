@@ -1,0 +1,23 @@
+use mathlib.Core.Path.{_≡_, ap, sym, _∙_, subst}
+use Prim.Native.Nat.{ℕ, _<_, _+_, _^_}
+use native.Mathlib.Omega.{arith}
+use Rattle.std.specs.declared.option.Option.{Option}
+use Rattle.std.specs.declared.option.Option.the-variants.{Some, None}
+use Rattle.std.specs.Options.{Cases, valueOr}
+use Rattle.memory_laws.proofs.Numbers.{word-fits}
+use Rattle.memory.proofs.checked.CheckedMemory.turn.Needs as need
+
+-- the value that is written is below the limit, whether it is new or the one read
+chosen-below : (new : Option ℕ) (old n : ℕ) → Cases new (Unit {0}) (λ v. v < n) → old < n → valueOr new old < n
+chosen-below None old n h lt = lt
+chosen-below (Some v) old n h lt = h
+
+pub put-requires : need.put-requires
+put-requires g c κs =
+    let told = c .in-Continue-old .ensures tt in
+    let k = c .fetch .last .self .clock in
+    let same : k .width ≡ c .args .self .now .clock .width = ap (λ x. x .width) (told .clock) in
+    let early : k .time < 1048575 = rw (told .clock) (c .pre .1) in
+    let small : valueOr (c .args .new) (c .in-Continue-old .old) < 2 ^ k .width =
+        rw same (chosen-below (c .args .new) (c .in-Continue-old .old) _ (c .pre .2) (told .small)) in
+    (c .pre .0, rw (c .power .ensures, c .unwrap-or-value .ensures) (word-fits (k .width) (k .time + 1) _ (omega arith) small (k .ok .2)))

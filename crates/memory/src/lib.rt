@@ -1,0 +1,4 @@
+// The checked memory.
+pub mod clock;
+
+pub mod checked;

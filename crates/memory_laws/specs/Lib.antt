@@ -1,0 +1,5 @@
+pub mod Mix
+pub mod Checked
+pub mod History
+pub mod Runs
+pub mod Promise

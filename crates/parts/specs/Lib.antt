@@ -1,0 +1,4 @@
+pub mod Causes
+pub mod Outcomes
+pub mod Meaning
+pub mod Tallying

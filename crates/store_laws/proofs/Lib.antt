@@ -1,0 +1,3 @@
+pub mod ArrayKeeps
+pub mod ReplayKeeps
+pub mod AlteringKeeps

@@ -1,0 +1,3 @@
+pub mod ArrayMachine
+pub mod ReplayMachine
+pub mod AlteringMachine
