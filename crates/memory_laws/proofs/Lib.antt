@@ -5,3 +5,12 @@ pub mod Loyalty
 pub mod CheckedKeeps
 pub mod Making
 pub mod Forget
+pub mod Bags
+pub mod Touches
+pub mod Offline
+pub mod Log
+pub mod Remembers
+pub mod Lasting
+pub mod Watching
+pub mod Whole
+pub mod Promised

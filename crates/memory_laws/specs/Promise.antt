@@ -7,12 +7,12 @@ use Rattle.parts.specs.declared.fault.Fault.{Fault}
 use Rattle.parts.specs.Meaning.{Meaning}
 use Rattle.parts.specs.Tallying.{Tallying}
 use Rattle.memory_laws.specs.declared.call.Call.{Call}
-use Rattle.memory_laws.specs.declared.call.Call.the-variants.{Write, Read, Sweep}
+use Rattle.memory_laws.specs.declared.call.Call.the-variants.{Read, Sweep}
 use Rattle.memory_laws.specs.declared.call.Answer.{Answer}
-use Rattle.memory_laws.specs.declared.call.Answer.the-variants.{Written, Value, Passed, Declined, Failed}
+use Rattle.memory_laws.specs.declared.call.Answer.the-variants.{Value, Passed, Failed}
 use Rattle.memory_laws.specs.Checked.{Mem, stamp-bits, opened}
 use Rattle.memory_laws.specs.History.{Event, sweep-ends, Watched, watched, misread, epochs, Bags, no-bags, Same}
-use Rattle.memory_laws.specs.Runs.{answers, after, ideal-words, ideal-answers}
+use Rattle.memory_laws.specs.Runs.{answers, after, accepted, ideal-words, ideal-answers}
 
 module _ (m : Meaning) {T V : Type 0} (l : T → Tallying V) (s : m .State) (t : T) where
   -- the memory just made over the store in the state s, whose calls are watched from the making on
@@ -31,14 +31,7 @@ module _ (m : Meaning) {T V : Type 0} (l : T → Tallying V) (s : m .State) (t :
 
   -- the words of an ideal memory of that size and width, after these calls
   abbrev pub ideal : List Call → List ℕ
-  ideal calls = ideal-words 0 (m .size s) (m .width s - stamp-bits) (replicate (m .size s) 0) calls
-
-  abbrev pub accepted : Answer → Type 0
-  accepted Written = Unit {0}
-  accepted (Value _) = Unit {0}
-  accepted Passed = Unit {0}
-  accepted (Declined _) = ⊥
-  accepted (Failed _) = ⊥
+  ideal calls = ideal-words (m .size s) (m .width s - stamp-bits) (replicate (m .size s) 0) calls
 
   pub record Promise (calls : List Call) : Type 0 where
     -- The offline check: where every epoch up to that of a reading has ended with one bag read and written, the reading

@@ -23,6 +23,14 @@ refused (Some _) f = Failed f
 abbrev pub told : {A S T V : Type 0} → (A → Answer) → Outcome Fault A (Memory S T V) → Answer × Memory S T V
 told f o = (elim (o .0) [ Ok a ↦ f a | Err x ↦ refused (o .1 .broken) x ], o .1)
 
+-- a call was accepted if it was neither declined nor answered with a fault
+abbrev pub accepted : Answer → Type 0
+accepted Written = Unit {0}
+accepted (Value v) = Unit {0}
+accepted Passed = Unit {0}
+accepted (Declined f) = ⊥
+accepted (Failed f) = ⊥
+
 module _ (b : Base) {T V : Type 0} (l : T → Tallying V) where
   abbrev pub performed : Call → Mem b l → Answer × Mem b l
   performed (Write a v) s = told (λ _. Written) (writes b l a v s)
@@ -39,20 +47,20 @@ module _ (b : Base) {T V : Type 0} (l : T → Tallying V) where
   after [] s = s
   after (c ∷ cs) s = after cs (performed c s .1)
 
--- The ideal memory is fed the calls alone: n cells of w bits. h is the height that its declines tell.
-module _ (h n w : ℕ) where
-  abbrev pub ideal-words : List ℕ → List Call → List ℕ
-  ideal-words xs [] = xs
-  ideal-words xs (Write a v ∷ cs) = ideal-words (written n w xs a v) cs
-  ideal-words xs (Read a ∷ cs) = ideal-words xs cs
-  ideal-words xs (Sweep ∷ cs) = ideal-words xs cs
+-- The ideal memory is fed the calls alone: n cells of w bits. Its words after some calls:
+abbrev pub ideal-words : ℕ → ℕ → List ℕ → List Call → List ℕ
+ideal-words n w xs [] = xs
+ideal-words n w xs (Write a v ∷ cs) = ideal-words n w (written n w xs a v) cs
+ideal-words n w xs (Read a ∷ cs) = ideal-words n w xs cs
+ideal-words n w xs (Sweep ∷ cs) = ideal-words n w xs cs
 
-  abbrev pub ideally : {A : Type 0} → (A → Answer) → Result A Fault → Answer
-  ideally f (Ok a) = f a
-  ideally f (Err x) = Declined x
+abbrev pub ideally : {A : Type 0} → (A → Answer) → Result A Fault → Answer
+ideally f (Ok a) = f a
+ideally f (Err x) = Declined x
 
-  abbrev pub ideal-answers : List ℕ → List Call → List Answer
-  ideal-answers xs [] = []
-  ideal-answers xs (Write a v ∷ cs) = ideally (λ _. Written) (writing h n w a v) ∷ ideal-answers (written n w xs a v) cs
-  ideal-answers xs (Read a ∷ cs) = ideally Value (reading h n xs a) ∷ ideal-answers xs cs
-  ideal-answers xs (Sweep ∷ cs) = Passed ∷ ideal-answers xs cs
+-- and what it answers; h is the height that its declines tell
+abbrev pub ideal-answers : ℕ → ℕ → ℕ → List ℕ → List Call → List Answer
+ideal-answers h n w xs [] = []
+ideal-answers h n w xs (Write a v ∷ cs) = ideally (λ _. Written) (writing h n w a v) ∷ ideal-answers h n w (written n w xs a v) cs
+ideal-answers h n w xs (Read a ∷ cs) = ideally Value (reading h n xs a) ∷ ideal-answers h n w xs cs
+ideal-answers h n w xs (Sweep ∷ cs) = Passed ∷ ideal-answers h n w xs cs

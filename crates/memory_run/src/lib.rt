@@ -7,7 +7,7 @@ ghost use Rattle.std.specs.Of.Vec.{vec-items, vec-len, vec-cap};
 ghost use Rattle.std.specs.Results.{Cases};
 ghost use Rattle.memory_laws.specs.Checked.{plain};
 ghost use Rattle.memory_laws.specs.Runs.{performed, answers, after};
-ghost use Rattle.memory_laws.specs.Promise.{all-answers, left};
+ghost use Rattle.memory_laws.specs.Promise.{all-answers, left, Promise};
 ghost use Rattle.memory.specs.View.{view};
 use memory::checked::CheckedMemory;
 use memory::checked::CheckedMemoryStore;
@@ -67,6 +67,7 @@ pub fn perform<S: Store, T: Tally + Drop>(heap: Global, store: S, tally: T, call
         (λ v. (vec-items v ≡ all-answers (S·Store .meaning) (T·Tally .tallying) (S·Store .state store) tally (now (calls .entry)))
             × (S·Store .state (r .0) ≡ left (S·Store .meaning) (T·Tally .tallying) (S·Store .state store) tally (now (calls .entry)) .store .below))
         (λ _. r .0 ≡ store) ⌝ }
+    ensures keeps { λ r. ⌜ Promise (S·Store .meaning) (T·Tally .tallying) (S·Store .state store) tally (now (calls .entry)) ⌝ }
 {
     let mut all = match Vec::with_capacity(heap, calls.len()) {
         Ok(all) => all,
