@@ -3,7 +3,7 @@ use mathlib.Core.Path.{_≡_, refl, sym, ap, _∙_}
 use mathlib.Core.List.{List, map}
 use mathlib.Core.Bool.{true}
 use mathlib.Core.Logic.{_⊎_, ⊎-elim}
-use Prim.Native.Nat.{ℕ, suc, zero, _+_, _-_, _%_, _^_, _<_, _≤_}
+use Prim.Native.Nat.{ℕ, suc, zero, _+_, _-_, _%_, _^_, _<_, _≤_, min}
 use native.Mathlib.Omega.{arith}
 use native.Mathlib.Nat.{zero-mod, zero-div}
 use lib.ListN.{length, getD, set, length-set, replicate}
@@ -61,9 +61,8 @@ module _ (m : Meaning) (keeps : Keeps m) {T V : Type 0} (l : T → Tallying V) (
 
   -- x is a loyal memory that was made over the store σ
   pub record Made (σ : m .State) (x : Mem (plain m) l) : Type 0 where
-    pub holds : Holds (checked m l) (m .width σ - 20) (checked m l .height x) (replicate (m .size σ) 0) x
+    pub holds : Holds (checked m l) (m .width σ - 20) (min 255 (m .height σ + 1)) (replicate (m .size σ) 0) x
     pub size-same : x .size ≡ m .size σ
-    pub below : m .height (x .store) ≡ m .height σ
 
   pub made-is : (σ : m .State) (t : T) → m .loyal σ → 20 < m .width σ → Made σ (made m l σ t)
   made-is σ t h wide =
@@ -90,8 +89,7 @@ module _ (m : Meaning) (keeps : Keeps m) {T V : Type 0} (l : T → Tallying V) (
           };
           cells-are = ap (map (value-of w)) (d .holds .cells-are) ∙ zeros;
           width-is = refl;
-          height-is = refl;
+          height-is = ap (λ (k : ℕ). min 255 (k + 1)) (d .holds .height-is);
         };
         size-same = refl;
-        below = d .holds .height-is;
       })

@@ -83,7 +83,7 @@ module _ (m : Meaning) (keeps : Keeps m) {T V : Type 0} (l : T → Tallying V) (
     no-alarm h wide =
         let k = made-is m keeps l laws s t h wide in
         sym (watched-answers m l s t calls)
-        ∙ loyal-answers _ _ _ _ calls (made m l s t) (k .holds .loyal) (ap (λ (g : ℕ). min 255 (g + 1)) (k .below)) (k .size-same) (k .holds .width-is) (k .holds .cells-are)
+        ∙ loyal-answers _ _ _ _ calls (made m l s t) (k .holds .loyal) (k .holds .height-is) (k .size-same) (k .holds .width-is) (k .holds .cells-are)
 
     -- what is kept of a run from the memory just made, by whether the store can be checked
     Started : Bool → Type 0

@@ -226,4 +226,4 @@ module _ (m : Meaning) {T V : Type 0} (l : T → Tallying V) where
 
   -- x, made over the store s, is loyal and holds zeros, where s is loyal and its words leave bits for a value
   abbrev pub Starts-loyal : m .State → Mem (plain m) l → Type 0
-  Starts-loyal s x = m .loyal s → stamp-bits < m .width s → Holds checked (m .width s - stamp-bits) (height (plain m) l x) (replicate (m .size s) 0) x
+  Starts-loyal s x = m .loyal s → stamp-bits < m .width s → Holds checked (m .width s - stamp-bits) (min 255 (m .height s + 1)) (replicate (m .size s) 0) x
