@@ -4,11 +4,12 @@ ghost use Prim.Native.Nat.{_<_, _^_};
 ghost use Rattle.std.specs.declared.result.Result.the-variants.{Ok};
 ghost use Rattle.std.specs.Options.{Cases};
 ghost use Rattle.std.specs.Vec.{made};
+ghost use Rattle.parts.specs.Outcomes.{settled};
 ghost use Rattle.parts.specs.Meaning.{fault};
-ghost use Rattle.memory_laws.specs.Checked.{plain, record-of, checkable, height, fetch, put, renewed, cleared, sweep-all, ready, turn, visit, sweeps, checked, Starts-loyal};
+ghost use Rattle.memory_laws.specs.Checked.{plain, at-broken, record-of, checkable, height, fetch, put, renewed, cleared, sweep-all, ready, turn, visit, replaced, sweeps, checked, Starts-loyal};
 ghost use Rattle.memory_laws.specs.Checked.{made as made-over};
 ghost use Rattle.memory_laws.proofs.CheckedKeeps.{checked-keeps};
-ghost use Rattle.memory.specs.View.{view, Does};
+ghost use Rattle.memory.specs.View.{view, Does, unless-any};
 use super::clock::Clock;
 use parts::fault::Cause;
 use parts::fault::Fault;
@@ -65,6 +66,27 @@ impl<S: Store, T: Tally> CheckedMemory<S, T> {
         Fault { cause, height: self.store.height().saturating_add(1), place }
     }
 
+    // A broken memory answers its first fault.
+    fn unbroken(&self) -> Result<(), Fault>
+        ensures { λ r. ⌜ r ≡ unless-any (now (self .entry) .broken) ⌝ }
+    {
+        match self.broken {
+            Some(first) => Err(first),
+            None => Ok(()),
+        }
+    }
+
+    // A fault breaks the memory.
+    fn settle<A>(&mut self, result: Result<A, Fault>) -> Result<A, Fault>
+        ensures { λ r. ⌜ Does (S·Store .state) (now (self .entry)) (now (self .exit)) r (λ s. settled at-broken (result, s)) ⌝ }
+    {
+        match &result {
+            Ok(_) => {}
+            Err(f) => self.broken = Some(*f),
+        }
+        result
+    }
+
     // Reads a cell below, tests its word and adds its record to those read; answers the value.
     fn fetch(&mut self, cell: u64) -> Result<u64, Fault>
         requires { ⌜ cell < 4096 ⌝ }
@@ -104,8 +126,10 @@ impl<S: Store, T: Tally> CheckedMemory<S, T> {
         Ok(())
     }
 
-    fn make(store: S, tally: T) -> Self
-        ensures { λ r. ⌜ view (S·Store .state) r ≡ made-over (S·Store .meaning) (T·Tally .tallying) (S·Store .state store) tally ⌝ }
+    // A checked memory over the store, which it clears.
+    pub fn new(store: S, tally: T) -> Self
+        ensures outcome { λ r. ⌜ view (S·Store .state) r ≡ made-over (S·Store .meaning) (T·Tally .tallying) (S·Store .state store) tally ⌝ }
+        ensures loyal { λ r. ⌜ Starts-loyal (S·Store .meaning) (T·Tally .tallying) (S·Store .state store) (view (S·Store .state) r) ⌝ }
     {
         let size = store.size();
         let width = store.width();
@@ -134,14 +158,6 @@ impl<S: Store, T: Tally> CheckedMemory<S, T> {
         memory
     }
 
-    // A checked memory over the store, which it clears.
-    pub fn new(store: S, tally: T) -> Self
-        ensures outcome { λ r. ⌜ view (S·Store .state) r ≡ made-over (S·Store .meaning) (T·Tally .tallying) (S·Store .state store) tally ⌝ }
-        ensures loyal { λ r. ⌜ Starts-loyal (S·Store .meaning) (T·Tally .tallying) (S·Store .state store) (view (S·Store .state) r) ⌝ }
-    {
-        CheckedMemory::make(store, tally)
-    }
-
     // The sweep's step at one cell; answers the new tally.
     fn renew(&mut self, cell: u64, fresh: T::Value) -> Result<T::Value, Fault>
         requires { ⌜ cell < 4096 ⌝ }
@@ -159,7 +175,8 @@ impl<S: Store, T: Tally> CheckedMemory<S, T> {
         ensures zero { λ r. ⌜ (r ≡ Ok tt → now (self .exit) .clock .time ≡ 0) ⌝ }
     {
         let mut fresh = self.tally.start();
-        for cell in 0..self.clock.size {
+        let cells = self.clock.size;
+        for cell in 0..cells {
             fresh = self.renew(cell, fresh)?;
         }
         if !self.tally.same(self.read, self.written) {
@@ -206,20 +223,21 @@ impl<S: Store, T: Tally> CheckedMemory<S, T> {
         self.turn(cell, new)
     }
 
+    fn replace(&mut self, cell: u64, value: u64) -> Result<(), Fault>
+        requires { ⌜ cell < 4096 ⌝ ∗ ⌜ value < 2 ^ now self .clock .width ⌝ }
+        ensures { λ r. ⌜ Does (S·Store .state) (now (self .entry)) (now (self .exit)) r (replaced (plain (S·Store .meaning)) (T·Tally .tallying) cell value) ⌝ }
+    {
+        self.visit(cell, Some(value))?;
+        Ok(())
+    }
+
     // Tallies every cell anew, and tells whether what was read is what was written.
     pub fn sweep(&mut self) -> Result<(), Fault>
         ensures { λ r. ⌜ Does (S·Store .state) (now (self .entry)) (now (self .exit)) r (sweeps (plain (S·Store .meaning)) (T·Tally .tallying)) ⌝ }
     {
-        if let Some(first) = self.broken {
-            return Err(first);
-        }
-        match self.sweep_all() {
-            Ok(()) => Ok(()),
-            Err(f) => {
-                self.broken = Some(f);
-                Err(f)
-            }
-        }
+        self.unbroken()?;
+        let result = self.sweep_all();
+        self.settle(result)
     }
 
     // Takes the memory apart, and gives the store back.
@@ -257,37 +275,23 @@ pub impl<S: Store, T: Tally> Store for CheckedMemory<S, T> as CheckedMemoryStore
     }
 
     fn read(&mut self, cell: u64) -> Result<u64, Fault> {
-        if let Some(first) = self.broken {
-            return Err(first);
-        }
+        self.unbroken()?;
         if cell >= self.clock.size {
             return Err(self.own(Cause::NoSuchCell, cell));
         }
-        match self.visit(cell, None) {
-            Ok(value) => Ok(value),
-            Err(f) => {
-                self.broken = Some(f);
-                Err(f)
-            }
-        }
+        let result = self.visit(cell, None);
+        self.settle(result)
     }
 
     fn write(&mut self, cell: u64, word: u64) -> Result<(), Fault> {
-        if let Some(first) = self.broken {
-            return Err(first);
-        }
-        if cell >= self.clock.size {
+        self.unbroken()?;
+        if cell >= self.size() {
             return Err(self.own(Cause::NoSuchCell, cell));
         }
         if word >= power(self.clock.width) {
             return Err(self.own(Cause::WordTooWide, cell));
         }
-        match self.visit(cell, Some(word)) {
-            Ok(_) => Ok(()),
-            Err(f) => {
-                self.broken = Some(f);
-                Err(f)
-            }
-        }
+        let result = self.replace(cell, word);
+        self.settle(result)
     }
 }

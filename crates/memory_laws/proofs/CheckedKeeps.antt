@@ -98,7 +98,7 @@ module _ (m : Meaning) (keeps : Keeps m) {T V : Type 0} (l : T → Tallying V) (
       writes-in lt small =
           let q = visit-is s a (Some v) h lt v refl small in
           let b = lt-ltb a (s .size) lt in let n = lt-ltb v (2 ^ s .width) small in
-          (q .0, unbroken-is (s .broken) s _ (h .unbroken) ∙ rw (b, n) (ap (λ (o : Outcome Fault ℕ State). andThen (settled at-broken o) (done (plain m) l)) (q .1)), q .2)
+          (q .0, unbroken-is (s .broken) s _ (h .unbroken) ∙ rw (b, n) (ap (λ (o : Outcome Fault ℕ State). settled at-broken (andThen o (done (plain m) l))) (q .1)), q .2)
 
       writes-wide : a < s .size → 2 ^ s .width ≤ v → writes (plain m) l a v s ≡ (Err (fault WordTooWide (height (plain m) l s) a), s)
       writes-wide lt le = let b = lt-ltb a (s .size) lt in let n = le-ltb v (2 ^ s .width) le in unbroken-is (s .broken) s _ (h .unbroken) ∙ rw (b, n)

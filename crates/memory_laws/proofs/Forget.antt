@@ -17,7 +17,7 @@ use Rattle.memory_laws.specs.declared.call.Call.{Call}
 use Rattle.memory_laws.specs.declared.call.Call.the-variants.{Write, Read, Sweep}
 use Rattle.memory_laws.specs.declared.call.Answer.{Answer}
 use Rattle.memory_laws.specs.declared.call.Answer.the-variants.{Written, Value, Passed}
-use Rattle.memory_laws.specs.Checked.{Memory, Mem, plain, stamp-bits, clock-end, stamp-of, word-of, at-store, at-clock, at-broken, on-store, examined, fetch, counted, put, retallied, rewritten, renewed, swept, compared, closed, sweep-all, ready, answered, restamped, turn, turned, visit, done, reads, writes, sweeps, cleared, blank, checkable, opened, made}
+use Rattle.memory_laws.specs.Checked.{Memory, Mem, plain, stamp-bits, clock-end, stamp-of, word-of, at-store, at-clock, at-broken, on-store, examined, fetch, counted, put, retallied, rewritten, renewed, swept, compared, closed, sweep-all, ready, answered, restamped, turn, turned, visit, done, replaced, reads, writes, sweeps, cleared, blank, checkable, opened, made}
 use Rattle.memory_laws.specs.History.{Watched, watched}
 use Rattle.memory_laws.specs.Runs.{told, refused, performed, answers, after}
 use Rattle.memory_laws.specs.Promise.{start, all-answers, left}
@@ -114,7 +114,7 @@ module _ (m : Meaning) {T V : Type 0} (l : T → Tallying V) where
   forget-writes a v s =
       unbroken (s .broken) s _ _ (tested (ltb a (s .size)) _ _ _ _
         (tested (ltb v (2 ^ s .width)) _ _ _ _
-          (then (settled at-broken (visit (watched m) l a (Some v) s)) (done (watched m) l) (done (plain m) l) (λ _ _. refl) ∙ ap (λ o. andThen o (done (plain m) l)) (broken-visits a (Some v) s))
+          (breaks (replaced (watched m) l a v s) ∙ ap (settled at-broken) (then (visit (watched m) l a (Some v) s) (done (watched m) l) (done (plain m) l) (λ _ _. refl) ∙ ap (λ o. andThen o (done (plain m) l)) (visits a (Some v) s)))
           refl) refl)
 
   pub forget-sweeps : (s : W) → forgotten (sweeps (watched m) l s) ≡ sweeps (plain m) l (forget s)

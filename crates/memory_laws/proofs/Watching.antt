@@ -24,7 +24,7 @@ use Rattle.memory_laws.specs.declared.call.Call.{Call}
 use Rattle.memory_laws.specs.declared.call.Call.the-variants.{Write, Read, Sweep}
 use Rattle.memory_laws.specs.declared.call.Answer.{Answer}
 use Rattle.memory_laws.specs.declared.call.Answer.the-variants.{Written, Value, Passed, Declined, Failed}
-use Rattle.memory_laws.specs.Checked.{Mem, at-broken, height, visit, done, reads, writes, sweeps, sweep-all}
+use Rattle.memory_laws.specs.Checked.{Mem, at-broken, height, visit, done, replaced, reads, writes, sweeps, sweep-all}
 use Rattle.memory_laws.specs.History.{Event, sweep-ends, watched, misread, update, epochs, no-bags, Same}
 use Rattle.memory_laws.specs.Runs.{told, refused, performed, answers, after, ideal-words}
 use Rattle.memory_laws.specs.Runs.{accepted}
@@ -95,7 +95,7 @@ module _ (m : Meaning) {T V : Type 0} (l : T → Tallying V) (laws : (t : T) →
     reading-did a la (strays f s₁ h₁ one tr) = did-break (Read a) f (at-broken f s₁) h₁ one (trail-on h₁ s₁ f tr) refl
 
     writing-did : (a v : ℕ) → a < n → v < 2 ^ w → {r : Result ℕ Fault} {s₁ : W} → Came m l laws n w t narrow h a (Some v) r s₁ →
-        let o = told (λ _. Written) (andThen (settled at-broken (r, s₁)) (done (watched m) l)) in Did h (Write a v) (o .0) (o .1)
+        let o = told (λ _. Written) (settled at-broken (andThen (r, s₁) (done (watched m) l))) in Did h (Write a v) (o .0) (o .1)
     writing-did a v la lv (visits x s₁ k) =
         let e : x ≡ v = sym (k .got-value) in
         did-write a v s₁ la lv (subst (λ (y : ℕ). Visiting h a (Some v) y s₁) e k)
@@ -118,7 +118,7 @@ module _ (m : Meaning) {T V : Type 0} (l : T → Tallying V) (laws : (t : T) →
     abbrev write-body : ℕ → ℕ → Outcome Fault (Unit {0}) W
     write-body a v =
         cond (ltb a (s .size))
-          (cond (ltb v (2 ^ s .width)) (andThen (settled at-broken (visit (watched m) l a (Some v) s)) (done (watched m) l)) (Err (fault WordTooWide (height (watched m) l s) a), s))
+          (cond (ltb v (2 ^ s .width)) (settled at-broken (replaced (watched m) l a v s)) (Err (fault WordTooWide (height (watched m) l s) a), s))
           (Err (fault NoSuchCell (height (watched m) l s) a), s)
 
     pub did : (c : Call) → Did h c (performed (watched m) l c s .0) (performed (watched m) l c s .1)
@@ -139,7 +139,7 @@ module _ (m : Meaning) {T V : Type 0} (l : T → Tallying V) (laws : (t : T) →
             ⊎-elim
               (λ (small : v < 2 ^ s .width).
                 let lv : v < 2 ^ w = rw (← i .width-is) small in
-                let e = open-told (λ _. Written) (write-body a v) (andThen (settled at-broken (visit (watched m) l a (Some v) s)) (done (watched m) l)) (rw (lt-ltb a (s .size) lt, lt-ltb v (2 ^ s .width) small)) in
+                let e = open-told (λ _. Written) (write-body a v) (settled at-broken (replaced (watched m) l a v s)) (rw (lt-ltb a (s .size) lt, lt-ltb v (2 ^ s .width) small)) in
                 subst (λ (o : Answer × W). Did h (Write a v) (o .0) (o .1)) (sym e) (writing-did a v la lv (visit-is m l laws n w t narrow h s a (Some v) i la (λ x lx. lv))))
               (λ (wide : 2 ^ s .width ≤ v).
                 let wv : 2 ^ w ≤ v = rw (← i .width-is) wide in

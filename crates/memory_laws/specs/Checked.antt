@@ -162,16 +162,20 @@ module _ (b : Base) {T V : Type 0} (l : T → Tallying V) where
   abbrev pub visit : ℕ → Option ℕ → Mem → Outcome Fault ℕ Mem
   visit a new s = andThen (ready s) (turned a new)
 
+  -- a visit that puts a new value
+  abbrev pub done : ℕ → Mem → Outcome Fault (Unit {0}) Mem
+  done _ s = (Ok tt, s)
+
+  abbrev pub replaced : ℕ → ℕ → Mem → Outcome Fault (Unit {0}) Mem
+  replaced a v s = andThen (visit a (Some v) s) done
+
   -- the calls
   abbrev pub reads : ℕ → Mem → Outcome Fault ℕ Mem
   reads a s = unless-broken (s .broken) s (cond (ltb a (s .size)) (settled at-broken (visit a None s)) (Err (fault NoSuchCell (height s) a), s))
 
-  abbrev pub done : ℕ → Mem → Outcome Fault (Unit {0}) Mem
-  done _ s = (Ok tt, s)
-
   abbrev pub writes : ℕ → ℕ → Mem → Outcome Fault (Unit {0}) Mem
   writes a v s = unless-broken (s .broken) s (cond (ltb a (s .size))
-      (cond (ltb v (2 ^ s .width)) (andThen (settled at-broken (visit a (Some v) s)) done) (Err (fault WordTooWide (height s) a), s))
+      (cond (ltb v (2 ^ s .width)) (settled at-broken (replaced a v s)) (Err (fault WordTooWide (height s) a), s))
       (Err (fault NoSuchCell (height s) a), s))
 
   abbrev pub sweeps : Mem → Outcome Fault (Unit {0}) Mem
