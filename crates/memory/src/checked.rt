@@ -11,6 +11,7 @@ ghost use Rattle.memory_laws.specs.Checked.{made as made-over};
 ghost use Rattle.memory_laws.proofs.CheckedKeeps.{checked-keeps};
 ghost use Rattle.memory.specs.View.{view, Does, unless-any};
 use super::clock::Clock;
+use super::clock::power;
 use parts::fault::Cause;
 use parts::fault::Fault;
 use parts::store::Store;
@@ -34,13 +35,6 @@ pub struct CheckedMemory<S, T: Tally> {
     read: T::Value,
     written: T::Value,
     broken: Option<Fault>,
-}
-
-fn power(bits: u32) -> u64
-    requires { ⌜ bits < 64 ⌝ }
-    ensures { λ r. ⌜ r ≡ 2 ^ bits ⌝ }
-{
-    1u64 << bits
 }
 
 // The record of a word in a cell.
@@ -120,7 +114,7 @@ impl<S: Store, T: Tally> CheckedMemory<S, T> {
     fn clear(&mut self) -> Result<(), Fault>
         ensures { λ r. ⌜ Does (S·Store .state) (now (self .entry)) (now (self .exit)) r (cleared (plain (S·Store .meaning)) (T·Tally .tallying) (now (self .entry) .clock .size)) ⌝ }
     {
-        for cell in 0..self.clock.size {
+        for cell in 0..self.clock.cells() {
             self.put(cell, 0)?;
         }
         Ok(())
@@ -175,8 +169,7 @@ impl<S: Store, T: Tally> CheckedMemory<S, T> {
         ensures zero { λ r. ⌜ (r ≡ Ok tt → now (self .exit) .clock .time ≡ 0) ⌝ }
     {
         let mut fresh = self.tally.start();
-        let cells = self.clock.size;
-        for cell in 0..cells {
+        for cell in 0..self.clock.cells() {
             fresh = self.renew(cell, fresh)?;
         }
         if !self.tally.same(self.read, self.written) {
@@ -208,9 +201,9 @@ impl<S: Store, T: Tally> CheckedMemory<S, T> {
         ensures { λ r. ⌜ Does (S·Store .state) (now (self .entry)) (now (self .exit)) r (turn (plain (S·Store .meaning)) (T·Tally .tallying) cell new) ⌝ }
     {
         let old = self.fetch(cell)?;
-        self.clock.time += 1;
         let value = new.unwrap_or(old);
-        self.put(cell, self.clock.time * power(self.clock.width) + value)?;
+        let word = self.clock.stamped(value);
+        self.put(cell, word)?;
         Ok(value)
     }
 

@@ -1,6 +1,7 @@
 // A store in the hands of somebody who alters its cells.
 ghost use mathlib.Core.Path.{_≡_};
 ghost use denote.Ref.{now};
+ghost use lib.Dec.{leb};
 ghost use Rattle.store_laws.specs.AlteringMachine.{altering, due};
 ghost use Rattle.store_laws.proofs.AlteringKeeps.{altering-keeps};
 use parts::fault::Fault;
@@ -22,16 +23,31 @@ impl<'a, S: Store> Altering<'a, S> {
         Altering { store, coming, count: 0 }
     }
 
+    fn is_due(&self, first: Alteration) -> bool
+        ensures { λ r. ⌜ r ≡ leb (first .after) (now (self .entry) .count) ⌝ }
+    {
+        first.after <= self.count
+    }
+
+    // Makes one alteration: a write below, whatever the store answers to it.
+    fn make(&mut self, first: Alteration)
+        ensures store { λ _. ⌜ S·Store .state (now (self .exit) .store) ≡ S·Store .meaning .write (S·Store .state (now (self .entry) .store)) (first .cell) (first .word) .1 ⌝ }
+        ensures coming { λ _. ⌜ now (now (self .exit) .coming) ≡ now (now (self .entry) .coming) ⌝ }
+        ensures count { λ _. ⌜ now (self .exit) .count ≡ now (self .entry) .count ⌝ }
+    {
+        let _ = self.store.write(first.cell, first.word);
+    }
+
     // Makes the alterations that are due.
     fn alter(&mut self)
         ensures { λ _. ⌜ record { store = S·Store .state (now (self .exit) .store); coming = now (now (self .exit) .coming); count = now (self .exit) .count } ≡ due (S·Store .meaning) (now (now (self .entry) .coming)) (now (self .entry) .count) (S·Store .state (now (self .entry) .store)) ⌝ }
     {
         while self.coming.len() > 0 {
             let first = self.coming[0];
-            if first.after > self.count {
+            if !self.is_due(first) {
                 return;
             }
-            let _ = self.store.write(first.cell, first.word);
+            self.make(first);
             self.coming = &self.coming[1..];
         }
     }

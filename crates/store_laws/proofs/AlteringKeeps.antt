@@ -1,10 +1,11 @@
 use mathlib.Core.Path.{_≡_, refl, sym, ap, _∙_}
 use mathlib.Core.List.{List, [], _∷_}
+use mathlib.Core.Bool.{true, false}
 use Prim.Native.Nat.{ℕ, _-_, _<_, _≤_}
 use native.Mathlib.Omega.{arith}
+use lib.Dec.{leb}
 use lib.ListN.{length, getD, take, drop}
 use lib.Seq.{take-all}
-use Rattle.std.proofs.shelf.Tests.{le-leb, lt-leb}
 use Rattle.parts.specs.Meaning.{Meaning, Keeps, Holds}
 use Rattle.store_laws.specs.declared.Alteration.{Alteration}
 use Rattle.store_laws.specs.AlteringMachine.{Altered, due, after-due, altering}
@@ -17,17 +18,17 @@ module _ (m : Meaning) where
   due-none (x ∷ xs) n s le = absurd (omega arith)
 
   -- the first is due now
-  pub due-now : (xs : List Alteration) (d : Alteration) (n : ℕ) (s : m .State) → 0 < length xs → getD xs 0 d .after ≤ n →
+  pub due-now : (xs : List Alteration) (d : Alteration) (n : ℕ) (s : m .State) → 0 < length xs → leb (getD xs 0 d .after) n ≡ true →
       due m (take (length xs - 1) (drop 1 xs)) n (m .write s (getD xs 0 d .cell) (getD xs 0 d .word) .1) ≡ due m xs n s
   unfolding due
   due-now [] d n s lt le = absurd (omega arith)
-  due-now (x ∷ xs) d n s lt le = rw (le-leb _ _ le, take-all (length (x ∷ xs) - 1) xs (omega arith)) refl
+  due-now (x ∷ xs) d n s lt le = rw (le, take-all (length (x ∷ xs) - 1) xs (omega arith)) refl
 
   -- the first is due later
-  pub due-later : (xs : List Alteration) (d : Alteration) (n : ℕ) (s : m .State) → 0 < length xs → n < getD xs 0 d .after → due m xs n s ≡ record { store = s; coming = xs; count = n }
+  pub due-later : (xs : List Alteration) (d : Alteration) (n : ℕ) (s : m .State) → 0 < length xs → leb (getD xs 0 d .after) n ≡ false → due m xs n s ≡ record { store = s; coming = xs; count = n }
   unfolding due
   due-later [] d n s lo lt = absurd (omega arith)
-  due-later (x ∷ xs) d n s lo lt = rw (lt-leb _ _ lt) refl
+  due-later (x ∷ xs) d n s lo lt = rw lt refl
 
   module _ (k : Keeps m) where
     settled : (s : Altered (m .State)) → s .coming ≡ [] → after-due m s ≡ s

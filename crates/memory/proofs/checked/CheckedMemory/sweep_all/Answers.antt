@@ -20,7 +20,7 @@ pub returns-in-Break-fresh : need.returns-in-Break-fresh
 returns-in-Break-fresh g c =
     let p = err-from-errBy (c .from-residual .result) (c .from-residual .ensures .1) in
     let told = c .in-Break-fresh .ensures tt in
-    let all = upTo-fault (renewed (plain (g .S·Store .meaning)) (g .T·Tally .tallying)) _ _ (c .loop-cell .cell) (c .args .self .now .clock .size) _ _ _ _ (c .loop-cell-test .taken) (c .loop-cell .inv .1) (told .does .answer) (told .does .leaves) in
+    let all = upTo-fault (renewed (plain (g .S·Store .meaning)) (g .T·Tally .tallying)) _ _ (c .loop-cell .cell) (c .args .self .now .clock .size) _ _ _ _ (omega (arith, c .cells-cell-end .ensures, c .loop-cell-test .taken)) (c .loop-cell .inv .1) (told .does .answer) (told .does .leaves) in
     rw (p .1, p .2) (record {
       does = record {
         answer = sym (ap (λ o. andThen o (closed (plain (g .S·Store .meaning)) (g .T·Tally .tallying)) .0) all);

@@ -1,4 +1,3 @@
-use mathlib.Core.Path.{_≡_, ap, sym, _∙_, subst}
 use Prim.Native.Nat.{ℕ, _<_, _+_, _^_}
 use native.Mathlib.Omega.{arith}
 use Rattle.std.specs.declared.option.Option.{Option}
@@ -12,12 +11,17 @@ chosen-below : (new : Option ℕ) (old n : ℕ) → Cases new (Unit {0}) (λ v. 
 chosen-below None old n h lt = lt
 chosen-below (Some v) old n h lt = h
 
+pub stamped-word-requires : need.stamped-word-requires
+stamped-word-requires g c κs =
+    let told = c .in-Continue-old .ensures tt in
+    (rw (told .clock) (c .pre .1),
+      rw (told .clock, c .unwrap-or-value .ensures) (chosen-below (c .args .new) (c .in-Continue-old .old) _ (c .pre .2) (told .small)))
+
 pub put-requires : need.put-requires
 put-requires g c κs =
     let told = c .in-Continue-old .ensures tt in
     let k = c .fetch .last .self .clock in
-    let same : k .width ≡ c .args .self .now .clock .width = ap (λ x. x .width) (told .clock) in
     let early : k .time < 1048575 = rw (told .clock) (c .pre .1) in
-    let small : valueOr (c .args .new) (c .in-Continue-old .old) < 2 ^ k .width =
-        rw same (chosen-below (c .args .new) (c .in-Continue-old .old) _ (c .pre .2) (told .small)) in
-    (c .pre .0, rw (c .power .ensures, c .unwrap-or-value .ensures) (word-fits (k .width) (k .time + 1) _ (omega arith) small (k .ok .2)))
+    let small : c .unwrap-or-value .result < 2 ^ k .width =
+        rw (told .clock, c .unwrap-or-value .ensures) (chosen-below (c .args .new) (c .in-Continue-old .old) _ (c .pre .2) (told .small)) in
+    (c .pre .0, rw (c .stamped-word .ensures .word) (word-fits (k .width) (k .time + 1) _ (omega arith) small (k .ok .2)))

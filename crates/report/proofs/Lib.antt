@@ -1,0 +1,3 @@
+mod DigitSteps
+mod Adding
+mod Firsts

@@ -1,0 +1,4 @@
+// Text to sections.
+pub mod calls;
+pub mod card;
+pub mod section;

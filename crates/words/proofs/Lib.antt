@@ -1,0 +1,3 @@
+mod NumeralSteps
+mod WordSteps
+mod LineSteps
