@@ -125,39 +125,39 @@ all-close h sw =
     ∙ sym (append-assoc (touches (h .past)) (h .own) sw)
 
 -- false words
-misread-pairs : (m : ℕ → ℕ) (ts : List Touch) (h : List Event) → misread-from m (pairs ts ++ h) ≡ stale m ts + misread-from (words-after m ts) h
-misread-pairs m [] h = omega arith
-misread-pairs m (t ∷ ts) h = omega (arith, misread-pairs (update m (t .cell) (t .put)) ts h)
+misread-pairs : (last : ℕ → ℕ) (ts : List Touch) (h : List Event) → misread-from last (pairs ts ++ h) ≡ stale last ts + misread-from (words-after last ts) h
+misread-pairs last [] h = omega arith
+misread-pairs last (t ∷ ts) h = omega (arith, misread-pairs (update last (t .cell) (t .put)) ts h)
 
-misread-end : (m : ℕ → ℕ) (h : List Event) → misread-from m (h ++ sweep-ends ∷ []) ≡ misread-from m h
-misread-end m [] = refl
-misread-end m (did-read a x ∷ h) = ap (λ (k : ℕ). cond (eqb x (m a)) 0 1 + k) (misread-end m h)
-misread-end m (did-write a x ∷ h) = misread-end (update m a x) h
-misread-end m (sweep-begins ∷ h) = misread-end m h
-misread-end m (sweep-ends ∷ h) = misread-end m h
+misread-end : (last : ℕ → ℕ) (h : List Event) → misread-from last (h ++ sweep-ends ∷ []) ≡ misread-from last h
+misread-end last [] = refl
+misread-end last (did-read a x ∷ h) = ap (λ (k : ℕ). cond (eqb x (last a)) 0 1 + k) (misread-end last h)
+misread-end last (did-write a x ∷ h) = misread-end (update last a x) h
+misread-end last (sweep-begins ∷ h) = misread-end last h
+misread-end last (sweep-ends ∷ h) = misread-end last h
 
-misread-epoch : (m : ℕ → ℕ) (e : Epoch) (h : List Event) → misread-from m (epoch-events e ++ h) ≡ stale m (whole e) + misread-from (words-after m (whole e)) h
-misread-epoch m e h =
-    ap (misread-from m) (append-assoc (pairs (e .own)) (sweep-begins ∷ (pairs (e .sweep) ++ sweep-ends ∷ [])) h ∙ ap (λ (k : List Event). pairs (e .own) ++ (sweep-begins ∷ k)) (append-assoc (pairs (e .sweep)) (sweep-ends ∷ []) h))
-    ∙ rw (words-after-append m (e .own) (e .sweep))
-      (omega (arith, misread-pairs m (e .own) (sweep-begins ∷ (pairs (e .sweep) ++ sweep-ends ∷ h)), misread-pairs (words-after m (e .own)) (e .sweep) (sweep-ends ∷ h), stale-append m (e .own) (e .sweep)))
+misread-epoch : (last : ℕ → ℕ) (e : Epoch) (h : List Event) → misread-from last (epoch-events e ++ h) ≡ stale last (whole e) + misread-from (words-after last (whole e)) h
+misread-epoch last e h =
+    ap (misread-from last) (append-assoc (pairs (e .own)) (sweep-begins ∷ (pairs (e .sweep) ++ sweep-ends ∷ [])) h ∙ ap (λ (k : List Event). pairs (e .own) ++ (sweep-begins ∷ k)) (append-assoc (pairs (e .sweep)) (sweep-ends ∷ []) h))
+    ∙ rw (words-after-append last (e .own) (e .sweep))
+      (omega (arith, misread-pairs last (e .own) (sweep-begins ∷ (pairs (e .sweep) ++ sweep-ends ∷ h)), misread-pairs (words-after last (e .own)) (e .sweep) (sweep-ends ∷ h), stale-append last (e .own) (e .sweep)))
 
-misread-past : (m : ℕ → ℕ) (es : List Epoch) (h : List Event) → misread-from m (past-events es ++ h) ≡ stale m (touches es) + misread-from (words-after m (touches es)) h
-misread-past m [] h = omega arith
-misread-past m (e ∷ es) h =
-    let w = words-after m (whole e) in
+misread-past : (last : ℕ → ℕ) (es : List Epoch) (h : List Event) → misread-from last (past-events es ++ h) ≡ stale last (touches es) + misread-from (words-after last (touches es)) h
+misread-past last [] h = omega arith
+misread-past last (e ∷ es) h =
+    let w = words-after last (whole e) in
     let back : whole e ++ touches es ≡ touches (e ∷ es) = append-assoc (e .own) (e .sweep) (touches es) in
-    let s : stale m (touches (e ∷ es)) ≡ stale m (whole e) + stale w (touches es) = ap (stale m) (sym back) ∙ stale-append m (whole e) (touches es) in
-    let a : words-after m (touches (e ∷ es)) ≡ words-after w (touches es) = ap (words-after m) (sym back) ∙ words-after-append m (whole e) (touches es) in
-    ap (misread-from m) (append-assoc (epoch-events e) (past-events es) h)
-    ∙ rw a (omega (arith, misread-epoch m e (past-events es ++ h), misread-past w es h, s))
+    let s : stale last (touches (e ∷ es)) ≡ stale last (whole e) + stale w (touches es) = ap (stale last) (sym back) ∙ stale-append last (whole e) (touches es) in
+    let a : words-after last (touches (e ∷ es)) ≡ words-after w (touches es) = ap (words-after last) (sym back) ∙ words-after-append last (whole e) (touches es) in
+    ap (misread-from last) (append-assoc (epoch-events e) (past-events es) h)
+    ∙ rw a (omega (arith, misread-epoch last e (past-events es ++ h), misread-past w es h, s))
 
 still-zeros : (a : ℕ) → update zeros a 0 ≡ zeros
 still-zeros a = fun-ext (λ b. elim (cases-bool (eqb b a)) [ inl e ↦ rw e refl | inr e ↦ rw e refl ])
 
 misread-made : (a k : ℕ) (h : List Event) → misread-from zeros (made-from a k ++ h) ≡ misread-from zeros h
 misread-made a zero h = refl
-misread-made a (suc k) h = ap (λ (m : ℕ → ℕ). misread-from m (made-from (suc a) k ++ h)) (still-zeros a) ∙ misread-made (suc a) k h
+misread-made a (suc k) h = ap (λ (last : ℕ → ℕ). misread-from last (made-from (suc a) k ++ h)) (still-zeros a) ∙ misread-made (suc a) k h
 
 pub misread-flat : (n : ℕ) (h : Hist) → misread (flat n h) ≡ stale zeros (all h)
 misread-flat n h =

@@ -15,13 +15,13 @@ use Rattle.memory_laws.proofs.Numbers.{record-tells}
 use Rattle.memory_laws.proofs.Bags.{tallied, count-append, same-append, one-value, tallied-add}
 use Rattle.memory_laws.proofs.Touches.{Touch, Epoch, reads, writes, stale, words-after, present, Within, Timed, Sweeps, Sound, Each, bag-read, bag-written, touches, Agree, present-update, present-new, low-update, low-after, within-append, stale-epochs, whole, renewed, due, none-stale, due-written, reads-append}
 
-pub in-present : (m : ℕ → ℕ) (a w n : ℕ) → w < 2 ^ 48 → ((b : ℕ) → b < n → m b < 2 ^ 48) → 0 < count (record-of a w) (present m n) → w ≡ m a
-in-present m a w zero lt low h = absurd (omega arith)
-in-present m a w (suc k) lt low h =
-    let ih : 0 < count (record-of a w) (present m k) → w ≡ m a = in-present m a w k lt (λ b l. low b (omega arith)) in
-    elim (cases-eq (record-of k (m k)) (record-of a w))
-    [ inl p ↦ let i = record-tells k a (m k) w (low k (omega arith)) lt p in sym (i .1) ∙ ap m (i .0)
-    | inr ne ↦ let q = ne-eqb (record-of k (m k)) (record-of a w) ne in ih (omega (arith, rw q at h)) ]
+pub in-present : (last : ℕ → ℕ) (a w n : ℕ) → w < 2 ^ 48 → ((b : ℕ) → b < n → last b < 2 ^ 48) → 0 < count (record-of a w) (present last n) → w ≡ last a
+in-present last a w zero lt low h = absurd (omega arith)
+in-present last a w (suc k) lt low h =
+    let ih : 0 < count (record-of a w) (present last k) → w ≡ last a = in-present last a w k lt (λ b l. low b (omega arith)) in
+    elim (cases-eq (record-of k (last k)) (record-of a w))
+    [ inl p ↦ let i = record-tells k a (last k) w (low k (omega arith)) lt p in sym (i .1) ∙ ap last (i .0)
+    | inr ne ↦ let q = ne-eqb (record-of k (last k)) (record-of a w) ne in ih (omega (arith, rw q at h)) ]
 
 -- a word whose stamp is not ahead of the clock is not written later
 pub late : (stamp : ℕ → ℕ) (n c a w : ℕ) (ts : List Touch) → w < 2 ^ 48 → stamp w ≤ c → Within n ts → Timed stamp c ts → count (record-of a w) (writes ts) ≡ 0
@@ -38,67 +38,67 @@ one x r = cond (eqb x r) 1 0
 first : (r : ℕ) (xs : List ℕ) → 0 < count r (r ∷ xs)
 first r xs = rw (eq-eqb r r refl) (omega arith)
 
-pub sweep-true : (n k : ℕ) (m : ℕ → ℕ) (sw : List Touch) → Within n sw → Sweeps k n sw → ((b : ℕ) → b < n → m b < 2 ^ 48) → ((r : ℕ) → count r (reads sw) + count r (present m k) ≡ count r (present m n)) → stale m sw ≡ 0
-sweep-true n k m [] h s low same = refl
-sweep-true n k m (t ∷ ts) h s low same =
+pub sweep-true : (n k : ℕ) (last : ℕ → ℕ) (sw : List Touch) → Within n sw → Sweeps k n sw → ((b : ℕ) → b < n → last b < 2 ^ 48) → ((r : ℕ) → count r (reads sw) + count r (present last k) ≡ count r (present last n)) → stale last sw ≡ 0
+sweep-true n k last [] h s low same = refl
+sweep-true n k last (t ∷ ts) h s low same =
     let a = t .cell in
-    let e : t .got ≡ m a = in-present m a (t .got) n (h .1) low (omega (arith, same (record-of a (t .got)), first (record-of a (t .got)) (reads ts))) in
-    let ih = sweep-true n (suc k) (update m a (t .put)) ts (h .3) (s .1) (low-update n m a (t .put) (h .2) low)
-          (λ r. let f : one (record-of a (t .got)) r ≡ one (record-of a (m a)) r = ap (λ (w : ℕ). one (record-of a w) r) e in
-                omega (arith, same r, present-update r m a (t .put) n (h .0), present-new r m a k (t .put) (s .0), f)) in
-    rw (eq-eqb (t .got) (m a) e) (omega (arith, ih))
+    let e : t .got ≡ last a = in-present last a (t .got) n (h .1) low (omega (arith, same (record-of a (t .got)), first (record-of a (t .got)) (reads ts))) in
+    let ih = sweep-true n (suc k) (update last a (t .put)) ts (h .3) (s .1) (low-update n last a (t .put) (h .2) low)
+          (λ r. let f : one (record-of a (t .got)) r ≡ one (record-of a (last a)) r = ap (λ (w : ℕ). one (record-of a w) r) e in
+                omega (arith, same r, present-update r last a (t .put) n (h .0), present-new r last a k (t .put) (s .0), f)) in
+    rw (eq-eqb (t .got) (last a) e) (omega (arith, ih))
 
-pub own-true : (stamp : ℕ → ℕ) (n c : ℕ) (m : ℕ → ℕ) (ts sw : List Touch) → Within n ts → Within n sw → Timed stamp c ts → Sweeps 0 n sw → ((b : ℕ) → b < n → m b < 2 ^ 48) → ((r : ℕ) → count r (reads ts) + count r (reads sw) ≡ count r (present m n) + count r (writes ts)) → stale m (ts ++ sw) ≡ 0
-own-true stamp n c m [] sw h j k s low same = sweep-true n 0 m sw j s low (λ r. omega (arith, same r))
-own-true stamp n c m (t ∷ ts) sw h j k s low same =
+pub own-true : (stamp : ℕ → ℕ) (n c : ℕ) (last : ℕ → ℕ) (ts sw : List Touch) → Within n ts → Within n sw → Timed stamp c ts → Sweeps 0 n sw → ((b : ℕ) → b < n → last b < 2 ^ 48) → ((r : ℕ) → count r (reads ts) + count r (reads sw) ≡ count r (present last n) + count r (writes ts)) → stale last (ts ++ sw) ≡ 0
+own-true stamp n c last [] sw h j k s low same = sweep-true n 0 last sw j s low (λ r. omega (arith, same r))
+own-true stamp n c last (t ∷ ts) sw h j k s low same =
     let a = t .cell in
     let r₀ = record-of a (t .got) in
-    let e : t .got ≡ m a = in-present m a (t .got) n (h .1) low (omega (arith, same r₀, first r₀ (reads ts), late stamp n c a (t .got) (t ∷ ts) (h .1) (k .0) h k)) in
-    let ih = own-true stamp n (suc c) (update m a (t .put)) ts sw (h .3) j (k .2) s (low-update n m a (t .put) (h .2) low)
-          (λ r. let f : one (record-of a (t .got)) r ≡ one (record-of a (m a)) r = ap (λ (w : ℕ). one (record-of a w) r) e in
-                omega (arith, same r, present-update r m a (t .put) n (h .0), f)) in
-    rw (eq-eqb (t .got) (m a) e) (omega (arith, ih))
+    let e : t .got ≡ last a = in-present last a (t .got) n (h .1) low (omega (arith, same r₀, first r₀ (reads ts), late stamp n c a (t .got) (t ∷ ts) (h .1) (k .0) h k)) in
+    let ih = own-true stamp n (suc c) (update last a (t .put)) ts sw (h .3) j (k .2) s (low-update n last a (t .put) (h .2) low)
+          (λ r. let f : one (record-of a (t .got)) r ≡ one (record-of a (last a)) r = ap (λ (w : ℕ). one (record-of a w) r) e in
+                omega (arith, same r, present-update r last a (t .put) n (h .0), f)) in
+    rw (eq-eqb (t .got) (last a) e) (omega (arith, ih))
 
-pub offline-from : (stamp : ℕ → ℕ) (n : ℕ) (m : ℕ → ℕ) (began : List ℕ) (es : List Epoch) → ((a : ℕ) → a < n → m a < 2 ^ 48) → Same began (present m n) → Each (Sound stamp n) es → Agree Same began es → stale m (touches es) ≡ 0
-offline-from stamp n m began [] low b s agree = refl
-offline-from stamp n m began (e ∷ es) low b s agree =
-    let here = own-true stamp n 0 m (e .own) (e .sweep) (s .0 .own) (s .0 .sweep) (s .0 .timed) (s .0 .covers) low
+pub offline-from : (stamp : ℕ → ℕ) (n : ℕ) (last : ℕ → ℕ) (began : List ℕ) (es : List Epoch) → ((a : ℕ) → a < n → last a < 2 ^ 48) → Same began (present last n) → Each (Sound stamp n) es → Agree Same began es → stale last (touches es) ≡ 0
+offline-from stamp n last began [] low b s agree = refl
+offline-from stamp n last began (e ∷ es) low b s agree =
+    let here = own-true stamp n 0 last (e .own) (e .sweep) (s .0 .own) (s .0 .sweep) (s .0 .timed) (s .0 .covers) low
           (λ r. omega (arith, agree .0 r, b r, count-append r (reads (e .own)) (reads (e .sweep)), count-append r began (writes (e .own)))) in
-    let later = offline-from stamp n (words-after m (whole e)) (writes (e .sweep)) es (low-after n m (whole e) (within-append n (e .own) (e .sweep) (s .0 .own) (s .0 .sweep)) low) (renewed stamp n m e (s .0)) (s .1) (agree .1) in
-    omega (arith, stale-epochs m e es, here, later)
+    let later = offline-from stamp n (words-after last (whole e)) (writes (e .sweep)) es (low-after n last (whole e) (within-append n (e .own) (e .sweep) (s .0 .own) (s .0 .sweep)) low) (renewed stamp n last e (s .0)) (s .1) (agree .1) in
+    omega (arith, stale-epochs last e es, here, later)
 
 module _ {V : Type 0} (l : Tallying V) (laws : Laws l) where
   -- one stale read: the tally of what was read is not that of what was due
-  pub one-stale : (v : V) (n : ℕ) (m : ℕ → ℕ) (ts : List Touch) → n ≤ 4096 → Within n ts → ((a : ℕ) → a < n → m a < 2 ^ 48) → stale m ts ≡ 1 → tallied l v (reads ts) ≢ tallied l v (due m ts)
-  one-stale v n m [] le h low one same = omega arith
-  one-stale v n m (t ∷ ts) le h low one same =
-      let m′ : ℕ → ℕ = update m (t .cell) (t .put) in
-      let rest : stale m′ ts ≡ 1 → tallied l (l .add v (record-of (t .cell) (t .got))) (reads ts) ≢ tallied l (l .add v (record-of (t .cell) (t .got))) (due m′ ts) =
-            λ o. one-stale (l .add v (record-of (t .cell) (t .got))) n m′ ts le (h .3) (low-update n m (t .cell) (t .put) (h .2) low) o in
-      let down : m (t .cell) < 2 ^ 48 = low (t .cell) (h .0) in
-      elim (cases-eq (t .got) (m (t .cell)))
+  pub one-stale : (v : V) (n : ℕ) (last : ℕ → ℕ) (ts : List Touch) → n ≤ 4096 → Within n ts → ((a : ℕ) → a < n → last a < 2 ^ 48) → stale last ts ≡ 1 → tallied l v (reads ts) ≢ tallied l v (due last ts)
+  one-stale v n last [] le h low one same = omega arith
+  one-stale v n last (t ∷ ts) le h low one same =
+      let last′ : ℕ → ℕ = update last (t .cell) (t .put) in
+      let rest : stale last′ ts ≡ 1 → tallied l (l .add v (record-of (t .cell) (t .got))) (reads ts) ≢ tallied l (l .add v (record-of (t .cell) (t .got))) (due last′ ts) =
+            λ o. one-stale (l .add v (record-of (t .cell) (t .got))) n last′ ts le (h .3) (low-update n last (t .cell) (t .put) (h .2) low) o in
+      let down : last (t .cell) < 2 ^ 48 = low (t .cell) (h .0) in
+      elim (cases-eq (t .got) (last (t .cell)))
       [ inl p ↦
-          let q = eq-eqb (t .got) (m (t .cell)) p in
-          let o : stale m′ ts ≡ 1 = omega (arith, rw q at one) in
+          let q = eq-eqb (t .got) (last (t .cell)) p in
+          let o : stale last′ ts ≡ 1 = omega (arith, rw q at one) in
           rest o (rw (← p) at same)
       | inr ne ↦
-          let q = ne-eqb (t .got) (m (t .cell)) ne in
-          let z : stale m′ ts ≡ 0 = omega (arith, rw q at one) in
-          let e : reads ts ≡ due m′ ts = none-stale m′ ts z in
-          let f : l .add (tallied l v (reads ts)) (record-of (t .cell) (t .got)) ≡ l .add (tallied l v (reads ts)) (record-of (t .cell) (m (t .cell))) =
-                sym (tallied-add l laws v (record-of (t .cell) (t .got)) (reads ts)) ∙ same ∙ ap (λ (k : List ℕ). tallied l (l .add v (record-of (t .cell) (m (t .cell)))) k) (sym e) ∙ tallied-add l laws v (record-of (t .cell) (m (t .cell))) (reads ts) in
-          ne (omega (arith, laws .apart (tallied l v (reads ts)) (record-of (t .cell) (t .got)) (record-of (t .cell) (m (t .cell))) (omega arith) (omega arith) f)) ]
+          let q = ne-eqb (t .got) (last (t .cell)) ne in
+          let z : stale last′ ts ≡ 0 = omega (arith, rw q at one) in
+          let e : reads ts ≡ due last′ ts = none-stale last′ ts z in
+          let f : l .add (tallied l v (reads ts)) (record-of (t .cell) (t .got)) ≡ l .add (tallied l v (reads ts)) (record-of (t .cell) (last (t .cell))) =
+                sym (tallied-add l laws v (record-of (t .cell) (t .got)) (reads ts)) ∙ same ∙ ap (λ (k : List ℕ). tallied l (l .add v (record-of (t .cell) (last (t .cell)))) k) (sym e) ∙ tallied-add l laws v (record-of (t .cell) (last (t .cell))) (reads ts) in
+          ne (omega (arith, laws .apart (tallied l v (reads ts)) (record-of (t .cell) (t .got)) (record-of (t .cell) (last (t .cell))) (omega arith) (omega arith) f)) ]
 
-  pub epoch-one : (v : V) (stamp : ℕ → ℕ) (n : ℕ) (m : ℕ → ℕ) (e : Epoch) → n ≤ 4096 → ((a : ℕ) → a < n → m a < 2 ^ 48) → Sound stamp n e → stale m (whole e) ≡ 1 → tallied l v (bag-read e) ≢ tallied l v (bag-written (present m n) e)
-  epoch-one v stamp n m e le low s one same =
-      one-stale v n m (whole e) le (within-append n (e .own) (e .sweep) (s .own) (s .sweep)) low one
-      (ap (tallied l v) (reads-append (e .own) (e .sweep)) ∙ same ∙ sym (one-value l laws v (due m (whole e)) (bag-written (present m n) e) (due-written stamp n m e s)))
+  pub epoch-one : (v : V) (stamp : ℕ → ℕ) (n : ℕ) (last : ℕ → ℕ) (e : Epoch) → n ≤ 4096 → ((a : ℕ) → a < n → last a < 2 ^ 48) → Sound stamp n e → stale last (whole e) ≡ 1 → tallied l v (bag-read e) ≢ tallied l v (bag-written (present last n) e)
+  epoch-one v stamp n last e le low s one same =
+      one-stale v n last (whole e) le (within-append n (e .own) (e .sweep) (s .own) (s .sweep)) low one
+      (ap (tallied l v) (reads-append (e .own) (e .sweep)) ∙ same ∙ sym (one-value l laws v (due last (whole e)) (bag-written (present last n) e) (due-written stamp n last e s)))
 
-  pub one-shows-from : (v : V) (stamp : ℕ → ℕ) (n : ℕ) (m : ℕ → ℕ) (began : List ℕ) (es : List Epoch) → n ≤ 4096 → ((a : ℕ) → a < n → m a < 2 ^ 48) → Same began (present m n) → Each (Sound stamp n) es → Agree (λ r w. tallied l v r ≡ tallied l v w) began es → stale m (touches es) ≢ 1
-  one-shows-from v stamp n m began [] le low b s agree one = omega arith
-  one-shows-from v stamp n m began (e ∷ es) le low b s agree one =
-      let parts = stale-epochs m e es in
-      let here : stale m (whole e) ≢ 1 = λ o. epoch-one v stamp n m e le low (s .0) o (agree .0 ∙ one-value l laws v (bag-written began e) (bag-written (present m n) e) (same-append began (present m n) (writes (e .own)) b)) in
-      let later : stale (words-after m (whole e)) (touches es) ≢ 1 =
-            one-shows-from v stamp n (words-after m (whole e)) (writes (e .sweep)) es le (low-after n m (whole e) (within-append n (e .own) (e .sweep) (s .0 .own) (s .0 .sweep)) low) (renewed stamp n m e (s .0)) (s .1) (agree .1) in
+  pub one-shows-from : (v : V) (stamp : ℕ → ℕ) (n : ℕ) (last : ℕ → ℕ) (began : List ℕ) (es : List Epoch) → n ≤ 4096 → ((a : ℕ) → a < n → last a < 2 ^ 48) → Same began (present last n) → Each (Sound stamp n) es → Agree (λ r w. tallied l v r ≡ tallied l v w) began es → stale last (touches es) ≢ 1
+  one-shows-from v stamp n last began [] le low b s agree one = omega arith
+  one-shows-from v stamp n last began (e ∷ es) le low b s agree one =
+      let parts = stale-epochs last e es in
+      let here : stale last (whole e) ≢ 1 = λ o. epoch-one v stamp n last e le low (s .0) o (agree .0 ∙ one-value l laws v (bag-written began e) (bag-written (present last n) e) (same-append began (present last n) (writes (e .own)) b)) in
+      let later : stale (words-after last (whole e)) (touches es) ≢ 1 =
+            one-shows-from v stamp n (words-after last (whole e)) (writes (e .sweep)) es le (low-after n last (whole e) (within-append n (e .own) (e .sweep) (s .0 .own) (s .0 .sweep)) low) (renewed stamp n last e (s .0)) (s .1) (agree .1) in
       omega arith

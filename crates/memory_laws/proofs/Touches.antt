@@ -33,17 +33,17 @@ writes (t ∷ ts) = record-of (t .cell) (t .put) ∷ writes ts
 
 -- how many reads did not give the word last written to their cell
 abbrev pub stale : (ℕ → ℕ) → List Touch → ℕ
-stale m [] = 0
-stale m (t ∷ ts) = cond (eqb (t .got) (m (t .cell))) 0 1 + stale (update m (t .cell) (t .put)) ts
+stale last [] = 0
+stale last (t ∷ ts) = cond (eqb (t .got) (last (t .cell))) 0 1 + stale (update last (t .cell) (t .put)) ts
 
 abbrev pub words-after : (ℕ → ℕ) → List Touch → ℕ → ℕ
-words-after m [] = m
-words-after m (t ∷ ts) = words-after (update m (t .cell) (t .put)) ts
+words-after last [] = last
+words-after last (t ∷ ts) = words-after (update last (t .cell) (t .put)) ts
 
 -- the records of the first n cells
 abbrev pub present : (ℕ → ℕ) → ℕ → List ℕ
-present m zero = []
-present m (suc k) = record-of k (m k) ∷ present m k
+present last zero = []
+present last (suc k) = record-of k (last k) ∷ present last k
 
 -- cells below n, words below 2^48
 abbrev pub Within : ℕ → List Touch → Type 0
@@ -87,53 +87,53 @@ Agree P began [] = Unit {0}
 Agree P began (e ∷ es) = P (bag-read e) (bag-written began e) × Agree P (writes (e .sweep)) es
 
 -- a write above the first k cells
-pub present-above : (m : ℕ → ℕ) (a w k : ℕ) → k ≤ a → present (update m a w) k ≡ present m k
-present-above m a w zero h = refl
-present-above m a w (suc k) h =
-    let ih : present (update m a w) k ≡ present m k = present-above m a w k (omega arith) in
+pub present-above : (last : ℕ → ℕ) (a w k : ℕ) → k ≤ a → present (update last a w) k ≡ present last k
+present-above last a w zero h = refl
+present-above last a w (suc k) h =
+    let ih : present (update last a w) k ≡ present last k = present-above last a w k (omega arith) in
     let e : eqb k a ≡ false = ne-eqb k a (omega arith) in
     grind arith
 
-pub update-same : (m : ℕ → ℕ) (a w : ℕ) → update m a w a ≡ w
-update-same m a w = rw (eq-eqb a a refl)
+pub update-same : (last : ℕ → ℕ) (a w : ℕ) → update last a w a ≡ w
+update-same last a w = rw (eq-eqb a a refl)
 
-pub update-other : (m : ℕ → ℕ) (a w b : ℕ) → b ≢ a → update m a w b ≡ m b
-update-other m a w b ne = rw (ne-eqb b a ne)
+pub update-other : (last : ℕ → ℕ) (a w b : ℕ) → b ≢ a → update last a w b ≡ last b
+update-other last a w b ne = rw (ne-eqb b a ne)
 
-pub present-update : (r : ℕ) (m : ℕ → ℕ) (a w n : ℕ) → a < n → count r (present (update m a w) n) + cond (eqb (record-of a (m a)) r) 1 0 ≡ count r (present m n) + cond (eqb (record-of a w) r) 1 0
-present-update r m a w zero h = absurd (omega arith)
-present-update r m a w (suc k) h =
-    let ih : a < k → count r (present (update m a w) k) + cond (eqb (record-of a (m a)) r) 1 0 ≡ count r (present m k) + cond (eqb (record-of a w) r) 1 0 = present-update r m a w k in
+pub present-update : (r : ℕ) (last : ℕ → ℕ) (a w n : ℕ) → a < n → count r (present (update last a w) n) + cond (eqb (record-of a (last a)) r) 1 0 ≡ count r (present last n) + cond (eqb (record-of a w) r) 1 0
+present-update r last a w zero h = absurd (omega arith)
+present-update r last a w (suc k) h =
+    let ih : a < k → count r (present (update last a w) k) + cond (eqb (record-of a (last a)) r) 1 0 ≡ count r (present last k) + cond (eqb (record-of a w) r) 1 0 = present-update r last a w k in
     elim (cases-eq a k)
-    [ inl p ↦ rw (← p, update-same m a w, present-above m a w a (omega arith)) (omega arith)
-    | inr ne ↦ let lt : a < k = omega arith in let d : k ≢ a = omega arith in rw (update-other m a w k d) (omega (arith, ih lt)) ]
+    [ inl p ↦ rw (← p, update-same last a w, present-above last a w a (omega arith)) (omega arith)
+    | inr ne ↦ let lt : a < k = omega arith in let d : k ≢ a = omega arith in rw (update-other last a w k d) (omega (arith, ih lt)) ]
 
 -- what the reads of some touches should have given
 abbrev pub due : (ℕ → ℕ) → List Touch → List ℕ
-due m [] = []
-due m (t ∷ ts) = record-of (t .cell) (m (t .cell)) ∷ due (update m (t .cell) (t .put)) ts
+due last [] = []
+due last (t ∷ ts) = record-of (t .cell) (last (t .cell)) ∷ due (update last (t .cell) (t .put)) ts
 
 abbrev pub Cells : ℕ → List Touch → Type 0
 Cells n [] = Unit {0}
 Cells n (t ∷ ts) = (t .cell < n) × Cells n ts
 
-pub balance : (r n : ℕ) (m : ℕ → ℕ) (ts : List Touch) → Cells n ts → count r (due m ts) + count r (present (words-after m ts) n) ≡ count r (present m n) + count r (writes ts)
-balance r n m [] h = omega arith
-balance r n m (t ∷ ts) h =
-    omega (arith, balance r n (update m (t .cell) (t .put)) ts (h .1), present-update r m (t .cell) (t .put) n (h .0))
+pub balance : (r n : ℕ) (last : ℕ → ℕ) (ts : List Touch) → Cells n ts → count r (due last ts) + count r (present (words-after last ts) n) ≡ count r (present last n) + count r (writes ts)
+balance r n last [] h = omega arith
+balance r n last (t ∷ ts) h =
+    omega (arith, balance r n (update last (t .cell) (t .put)) ts (h .1), present-update r last (t .cell) (t .put) n (h .0))
 
-pub present-new : (r : ℕ) (m : ℕ → ℕ) (a k w : ℕ) → a ≡ k → count r (present (update m a w) (suc k)) ≡ cond (eqb (record-of a w) r) 1 0 + count r (present m k)
-present-new r m a k w p = rw (← p, update-same m a w, present-above m a w a (omega arith))
+pub present-new : (r : ℕ) (last : ℕ → ℕ) (a k w : ℕ) → a ≡ k → count r (present (update last a w) (suc k)) ≡ cond (eqb (record-of a w) r) 1 0 + count r (present last k)
+present-new r last a k w p = rw (← p, update-same last a w, present-above last a w a (omega arith))
 
-pub swept : (r k n : ℕ) (m : ℕ → ℕ) (ts : List Touch) → Sweeps k n ts → count r (present (words-after m ts) n) ≡ count r (present m k) + count r (writes ts)
-swept r k n m [] h = rw h (omega arith)
-swept r k n m (t ∷ ts) h =
-    let ih : count r (present (words-after (update m (t .cell) (t .put)) ts) n) ≡ count r (present (update m (t .cell) (t .put)) (suc k)) + count r (writes ts) = swept r (suc k) n (update m (t .cell) (t .put)) ts (h .1) in
-    omega (arith, ih, present-new r m (t .cell) k (t .put) (h .0))
+pub swept : (r k n : ℕ) (last : ℕ → ℕ) (ts : List Touch) → Sweeps k n ts → count r (present (words-after last ts) n) ≡ count r (present last k) + count r (writes ts)
+swept r k n last [] h = rw h (omega arith)
+swept r k n last (t ∷ ts) h =
+    let ih : count r (present (words-after (update last (t .cell) (t .put)) ts) n) ≡ count r (present (update last (t .cell) (t .put)) (suc k)) + count r (writes ts) = swept r (suc k) n (update last (t .cell) (t .put)) ts (h .1) in
+    omega (arith, ih, present-new r last (t .cell) k (t .put) (h .0))
 
-pub words-after-append : (m : ℕ → ℕ) (xs ys : List Touch) → words-after m (xs ++ ys) ≡ words-after (words-after m xs) ys
-words-after-append m [] ys = refl
-words-after-append m (t ∷ ts) ys = words-after-append (update m (t .cell) (t .put)) ts ys
+pub words-after-append : (last : ℕ → ℕ) (xs ys : List Touch) → words-after last (xs ++ ys) ≡ words-after (words-after last xs) ys
+words-after-append last [] ys = refl
+words-after-append last (t ∷ ts) ys = words-after-append (update last (t .cell) (t .put)) ts ys
 
 pub writes-append : (xs ys : List Touch) → writes (xs ++ ys) ≡ writes xs ++ writes ys
 writes-append [] ys = refl
@@ -143,9 +143,9 @@ pub reads-append : (xs ys : List Touch) → reads (xs ++ ys) ≡ reads xs ++ rea
 reads-append [] ys = refl
 reads-append (t ∷ ts) ys = ap (λ (k : List ℕ). record-of (t .cell) (t .got) ∷ k) (reads-append ts ys)
 
-pub stale-append : (m : ℕ → ℕ) (xs ys : List Touch) → stale m (xs ++ ys) ≡ stale m xs + stale (words-after m xs) ys
-stale-append m [] ys = omega arith
-stale-append m (t ∷ ts) ys = omega (arith, stale-append (update m (t .cell) (t .put)) ts ys)
+pub stale-append : (last : ℕ → ℕ) (xs ys : List Touch) → stale last (xs ++ ys) ≡ stale last xs + stale (words-after last xs) ys
+stale-append last [] ys = omega arith
+stale-append last (t ∷ ts) ys = omega (arith, stale-append (update last (t .cell) (t .put)) ts ys)
 
 pub cells-append : (n : ℕ) (xs ys : List Touch) → Cells n xs → Cells n ys → Cells n (xs ++ ys)
 cells-append n [] ys h k = k
@@ -160,36 +160,36 @@ abbrev pub whole : Epoch → List Touch
 whole e = e .own ++ e .sweep
 
 -- what an epoch should have read is what was written in it, the sweep's writes apart
-pub due-written : (stamp : ℕ → ℕ) (n : ℕ) (m : ℕ → ℕ) (e : Epoch) → Sound stamp n e → Same (due m (whole e)) (bag-written (present m n) e)
-due-written stamp n m e s r =
-    let b = balance r n m (whole e) (cells-append n (e .own) (e .sweep) (cells-within n (e .own) (s .own)) (cells-within n (e .sweep) (s .sweep))) in
-    let f : count r (present (words-after m (whole e)) n) ≡ 0 + count r (writes (e .sweep)) = rw (words-after-append m (e .own) (e .sweep)) (swept r 0 n (words-after m (e .own)) (e .sweep) (s .covers)) in
+pub due-written : (stamp : ℕ → ℕ) (n : ℕ) (last : ℕ → ℕ) (e : Epoch) → Sound stamp n e → Same (due last (whole e)) (bag-written (present last n) e)
+due-written stamp n last e s r =
+    let b = balance r n last (whole e) (cells-append n (e .own) (e .sweep) (cells-within n (e .own) (s .own)) (cells-within n (e .sweep) (s .sweep))) in
+    let f : count r (present (words-after last (whole e)) n) ≡ 0 + count r (writes (e .sweep)) = rw (words-after-append last (e .own) (e .sweep)) (swept r 0 n (words-after last (e .own)) (e .sweep) (s .covers)) in
     let g : count r (writes (whole e)) ≡ count r (writes (e .own)) + count r (writes (e .sweep)) = rw (writes-append (e .own) (e .sweep)) (count-append r (writes (e .own)) (writes (e .sweep))) in
-    omega (arith, b, f, g, count-append r (present m n) (writes (e .own)))
+    omega (arith, b, f, g, count-append r (present last n) (writes (e .own)))
 
 -- the writes of a sweep are what the cells then hold
-pub renewed : (stamp : ℕ → ℕ) (n : ℕ) (m : ℕ → ℕ) (e : Epoch) → Sound stamp n e → Same (writes (e .sweep)) (present (words-after m (whole e)) n)
-renewed stamp n m e s r = rw (words-after-append m (e .own) (e .sweep)) (omega (arith, swept r 0 n (words-after m (e .own)) (e .sweep) (s .covers)))
+pub renewed : (stamp : ℕ → ℕ) (n : ℕ) (last : ℕ → ℕ) (e : Epoch) → Sound stamp n e → Same (writes (e .sweep)) (present (words-after last (whole e)) n)
+renewed stamp n last e s r = rw (words-after-append last (e .own) (e .sweep)) (omega (arith, swept r 0 n (words-after last (e .own)) (e .sweep) (s .covers)))
 
 -- no stale read: what was read is what was due
-pub none-stale : (m : ℕ → ℕ) (ts : List Touch) → stale m ts ≡ 0 → reads ts ≡ due m ts
-none-stale m [] h = refl
-none-stale m (t ∷ ts) h =
-    let e : t .got ≡ m (t .cell) = elim (cases-eq (t .got) (m (t .cell))) [ inl p ↦ p | inr ne ↦ let q = ne-eqb (t .got) (m (t .cell)) ne in grind arith ] in
-    let ih : reads ts ≡ due (update m (t .cell) (t .put)) ts = none-stale (update m (t .cell) (t .put)) ts (omega arith) in
+pub none-stale : (last : ℕ → ℕ) (ts : List Touch) → stale last ts ≡ 0 → reads ts ≡ due last ts
+none-stale last [] h = refl
+none-stale last (t ∷ ts) h =
+    let e : t .got ≡ last (t .cell) = elim (cases-eq (t .got) (last (t .cell))) [ inl p ↦ p | inr ne ↦ let q = ne-eqb (t .got) (last (t .cell)) ne in grind arith ] in
+    let ih : reads ts ≡ due (update last (t .cell) (t .put)) ts = none-stale (update last (t .cell) (t .put)) ts (omega arith) in
     rw (e, ih)
 
-pub low-update : (n : ℕ) (m : ℕ → ℕ) (a w : ℕ) → w < 2 ^ 48 → ((b : ℕ) → b < n → m b < 2 ^ 48) → (b : ℕ) → b < n → update m a w b < 2 ^ 48
-low-update n m a w h low b lt = elim (cases-eq b a) [ inl p ↦ rw (p, update-same m a w) h | inr ne ↦ rw (update-other m a w b ne) (low b lt) ]
+pub low-update : (n : ℕ) (last : ℕ → ℕ) (a w : ℕ) → w < 2 ^ 48 → ((b : ℕ) → b < n → last b < 2 ^ 48) → (b : ℕ) → b < n → update last a w b < 2 ^ 48
+low-update n last a w h low b lt = elim (cases-eq b a) [ inl p ↦ rw (p, update-same last a w) h | inr ne ↦ rw (update-other last a w b ne) (low b lt) ]
 
-pub low-after : (n : ℕ) (m : ℕ → ℕ) (ts : List Touch) → Within n ts → ((b : ℕ) → b < n → m b < 2 ^ 48) → (b : ℕ) → b < n → words-after m ts b < 2 ^ 48
-low-after n m [] h low = low
-low-after n m (t ∷ ts) h low = low-after n (update m (t .cell) (t .put)) ts (h .3) (low-update n m (t .cell) (t .put) (h .2) low)
+pub low-after : (n : ℕ) (last : ℕ → ℕ) (ts : List Touch) → Within n ts → ((b : ℕ) → b < n → last b < 2 ^ 48) → (b : ℕ) → b < n → words-after last ts b < 2 ^ 48
+low-after n last [] h low = low
+low-after n last (t ∷ ts) h low = low-after n (update last (t .cell) (t .put)) ts (h .3) (low-update n last (t .cell) (t .put) (h .2) low)
 
 pub within-append : (n : ℕ) (xs ys : List Touch) → Within n xs → Within n ys → Within n (xs ++ ys)
 within-append n [] ys h k = k
 within-append n (t ∷ ts) ys h k = (h .0, h .1, h .2, within-append n ts ys (h .3) k)
 
-pub stale-epochs : (m : ℕ → ℕ) (e : Epoch) (es : List Epoch) → stale m (touches (e ∷ es)) ≡ stale m (whole e) + stale (words-after m (whole e)) (touches es)
-stale-epochs m e es =
-    rw (words-after-append m (e .own) (e .sweep)) (omega (arith, stale-append m (e .own) (e .sweep ++ touches es), stale-append (words-after m (e .own)) (e .sweep) (touches es), stale-append m (e .own) (e .sweep)))
+pub stale-epochs : (last : ℕ → ℕ) (e : Epoch) (es : List Epoch) → stale last (touches (e ∷ es)) ≡ stale last (whole e) + stale (words-after last (whole e)) (touches es)
+stale-epochs last e es =
+    rw (words-after-append last (e .own) (e .sweep)) (omega (arith, stale-append last (e .own) (e .sweep ++ touches es), stale-append (words-after last (e .own)) (e .sweep) (touches es), stale-append last (e .own) (e .sweep)))
