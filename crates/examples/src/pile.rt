@@ -20,11 +20,15 @@ use tallies::XorTally;
 
 // Performs the calls on a memory with an xor tally over one with a sum tally. Over a loyal store whose words leave bits
 // for both stamps the answers are those of an ideal memory, two heights up.
-pub fn on_pile<S: Store + Drop>(heap: Global, bottom: S, calls: &[Call]) -> Result<Vec<Answer>, AllocError>
+pub fn on_pile<S: Store + Drop>(
+    heap: Global,
+    bottom: S,
+    calls: &[Call],
+) -> Result<Vec<Answer>, AllocError>
     ensures { λ r. ⌜ (S·Store .meaning .loyal (S·Store .state bottom) → 40 < S·Store .meaning .width (S·Store .state bottom) →
         made r (λ v. vec-items v ≡ ideal-answers (min 255 (min 255 (S·Store .meaning .height (S·Store .state bottom) + 1) + 1))
-            (S·Store .meaning .size (S·Store .state bottom)) (S·Store .meaning .width (S·Store .state bottom) - 20 - 20)
-            (replicate (S·Store .meaning .size (S·Store .state bottom)) 0) (now (calls .entry)))) ⌝ }
+        (S·Store .meaning .size (S·Store .state bottom)) (S·Store .meaning .width (S·Store .state bottom) - 20 - 20)
+        (replicate (S·Store .meaning .size (S·Store .state bottom)) 0) (now (calls .entry)))) ⌝ }
 {
     let lower = CheckedMemory::new(bottom, Sum { key: 7 });
     let (_lower, answers) = perform(heap, lower, Xor { key: 9 }, calls);

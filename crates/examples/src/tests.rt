@@ -1,4 +1,5 @@
 // Runs on examples: what is proved of the definitions is seen of the compiled code.
+use super::pile::on_pile;
 use memory::checked::CheckedMemory;
 use memory::checked::CheckedMemoryStore;
 use memory_laws::call::Answer;
@@ -17,7 +18,6 @@ use store::array::ArrayStore;
 use store::replay::Replay;
 use store::replay::ReplayStore;
 use store_laws::Alteration;
-use super::pile::on_pile;
 use tallies::Sum;
 use tallies::SumTally;
 use tallies::Xor;
@@ -33,7 +33,10 @@ fn mixes() -> Result<(), Fail> {
 }
 
 fn three<T: Tally>(tally: &T) -> T::Value {
-    tally.add(tally.add(tally.add(tally.start(), 0), 281_474_976_710_656), 844_425_467_002_889)
+    tally.add(
+        tally.add(tally.add(tally.start(), 0), 281_474_976_710_656),
+        844_425_467_002_889,
+    )
 }
 
 #[test]
@@ -43,7 +46,11 @@ fn tallied() -> Result<(), Fail> {
 }
 
 fn found(cause: Cause, height: u8, place: u64) -> Result<u64, Fault> {
-    Err(Fault { cause, height, place })
+    Err(Fault {
+        cause,
+        height,
+        place,
+    })
 }
 
 // A read and a sweep of a memory over recorded words, 4 cells of 48 bits.
@@ -91,17 +98,39 @@ fn is_declined(answers: &Vec<Answer>, at: usize, fault: Fault) -> bool {
 fn piles(rt: LibcRuntime) -> Result<(), Fail> {
     let mut words = [5u64; 4];
     let calls = [
-        Call::Write { cell: 2, value: 200 },
+        Call::Write {
+            cell: 2,
+            value: 200,
+        },
         Call::Read { cell: 2 },
         Call::Sweep,
         Call::Read { cell: 4 },
-        Call::Write { cell: 1, value: 256 },
+        Call::Write {
+            cell: 1,
+            value: 256,
+        },
     ];
     let answers = on_pile(rt.alloc(), Array::new(&mut words, 48), &calls)?;
     check(is_value(&answers, 1, 200))?;
     check(is_passed(&answers, 2))?;
-    check(is_declined(&answers, 3, Fault { cause: Cause::NoSuchCell, height: 2, place: 4 }))?;
-    check(is_declined(&answers, 4, Fault { cause: Cause::WordTooWide, height: 2, place: 1 }))
+    check(is_declined(
+        &answers,
+        3,
+        Fault {
+            cause: Cause::NoSuchCell,
+            height: 2,
+            place: 4,
+        },
+    ))?;
+    check(is_declined(
+        &answers,
+        4,
+        Fault {
+            cause: Cause::WordTooWide,
+            height: 2,
+            place: 1,
+        },
+    ))
 }
 
 // The store's words after the making, a write and a stale word put back: 1 cell of 21 bits, so values of 1 bit.
@@ -109,7 +138,12 @@ fn piles(rt: LibcRuntime) -> Result<(), Fail> {
 fn words_left(rt: LibcRuntime) -> Result<(), Fail> {
     let mut words = [9u64; 1];
     let calls = [Call::Write { cell: 0, value: 1 }];
-    let (store, answers) = perform(rt.alloc(), Array::new(&mut words, 21), Sum { key: 0 }, &calls);
+    let (store, answers) = perform(
+        rt.alloc(),
+        Array::new(&mut words, 21),
+        Sum { key: 0 },
+        &calls,
+    );
     let _ = answers?;
     let mut store = store;
     check(store.read(0) == Ok(3))
@@ -119,7 +153,11 @@ fn words_left(rt: LibcRuntime) -> Result<(), Fail> {
 #[test]
 fn alters() -> Result<(), Fail> {
     let mut words = [0u64; 2];
-    let coming = [Alteration { after: 1, cell: 1, word: 7 }];
+    let coming = [Alteration {
+        after: 1,
+        cell: 1,
+        word: 7,
+    }];
     let mut store = Altering::new(Array::new(&mut words, 8), &coming);
     check(store.read(1) == Ok(0))?;
     check(store.read(1) == Ok(7))

@@ -57,7 +57,11 @@ impl<S: Store, T: Tally> CheckedMemory<S, T> {
     fn own(&self, cause: Cause, place: u64) -> Fault
         ensures { λ r. ⌜ r ≡ fault cause (height (plain (S·Store .meaning)) (T·Tally .tallying) (view (S·Store .state) (now (self .entry)))) place ⌝ }
     {
-        Fault { cause, height: self.store.height().saturating_add(1), place }
+        Fault {
+            cause,
+            height: self.store.height().saturating_add(1),
+            place,
+        }
     }
 
     // A broken memory answers its first fault.
@@ -132,7 +136,11 @@ impl<S: Store, T: Tally> CheckedMemory<S, T> {
             return CheckedMemory {
                 store,
                 tally,
-                clock: Clock { size: 0, width: 0, time: 0 },
+                clock: Clock {
+                    size: 0,
+                    width: 0,
+                    time: 0,
+                },
                 read: start,
                 written: start,
                 broken: None,
@@ -141,7 +149,11 @@ impl<S: Store, T: Tally> CheckedMemory<S, T> {
         let mut memory = CheckedMemory {
             store,
             tally,
-            clock: Clock { size, width: width - STAMP_BITS, time: 0 },
+            clock: Clock {
+                size,
+                width: width - STAMP_BITS,
+                time: 0,
+            },
             read: start,
             written: start,
             broken: None,
@@ -235,10 +247,18 @@ impl<S: Store, T: Tally> CheckedMemory<S, T> {
 
     // Takes the memory apart, and gives the store back.
     pub fn into_store(self) -> S
-        where T: Drop
+    where
+        T: Drop,
         ensures { λ r. ⌜ S·Store .state r ≡ view (S·Store .state) self .store ⌝ }
     {
-        let CheckedMemory { store, tally: _, clock: _, read: _, written: _, broken: _ } = self;
+        let CheckedMemory {
+            store,
+            tally: _,
+            clock: _,
+            read: _,
+            written: _,
+            broken: _,
+        } = self;
         store
     }
 
@@ -252,7 +272,9 @@ impl<S: Store, T: Tally> CheckedMemory<S, T> {
 
 pub impl<S: Store, T: Tally> Store for CheckedMemory<S, T> as CheckedMemoryStore {
     ghost meaning = { checked (S·Store .meaning) (T·Tally .tallying) };
+
     ghost state = { view (S·Store .state) };
+
     ghost keeps = { checked-keeps (S·Store .meaning) (S·Store .keeps) (T·Tally .tallying) (T·Tally .laws) };
 
     fn size(&self) -> u64 {

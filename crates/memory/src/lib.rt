@@ -1,4 +1,3 @@
 // The checked memory.
-pub mod clock;
-
 pub mod checked;
+pub mod clock;

@@ -40,14 +40,15 @@ module _ (m : Meaning) (keeps : Keeps m) {T V : Type 0} (l : T → Tallying V) (
   cells s = checked m l .cells s
 
   visit-is : (s : State) (a : ℕ) (new : Option ℕ) → Loyal m l s → a < s .size → (v : ℕ) → valueOr new (getD (cells s) a 0) ≡ v → v < 2 ^ s .width →
-    (t : State) × (visit (plain m) l a new s ≡ (Ok v, t)) × Fine m keeps l laws s t (set (cells s) a v)
+      (t : State) × (visit (plain m) l a new s ≡ (Ok v, t)) × Fine m keeps l laws s t (set (cells s) a v)
   visit-is s a new h lt v e small =
       let r = ready-is m keeps l laws s h in
       let s′ = r .0 in let d = r .2 .holds in
       let e′ : valueOr new (value-of (s′ .width) (getD (m .cells (s′ .store)) a 0)) ≡ v =
-          ap (valueOr new) (sym (value-at (s′ .width) (m .cells (s′ .store)) a) ∙ ap (λ xs. getD xs a 0) (d .cells-are)) ∙ e in
-      let q = turn-is m keeps l laws s′ a new (d .loyal) (r .3) (rw (r .2 .size-same) lt) v e′ (rw (d .width-is) small) in
-      (q .0, ap (λ (o : Outcome Fault (Unit {0}) State). andThen o (turned (plain m) l a new)) (r .1) ∙ q .1,
+      ap (valueOr new) (sym (value-at (s′ .width) (m .cells (s′ .store)) a) ∙ ap (λ xs. getD xs a 0) (d .cells-are)) ∙ e in
+      let q = turn-is m keeps l laws s′ a new (d .loyal) (r .3) (rw (r .2 .size-same) lt) v e′ (rw (d .width-is) small) in (
+        q .0,
+        ap (λ (o : Outcome Fault (Unit {0}) State). andThen o (turned (plain m) l a new)) (r .1) ∙ q .1,
         record {
           holds = record {
             loyal = q .2 .holds .loyal;
@@ -56,7 +57,8 @@ module _ (m : Meaning) (keeps : Keeps m) {T V : Type 0} (l : T → Tallying V) (
             height-is = q .2 .holds .height-is ∙ d .height-is;
           };
           size-same = q .2 .size-same ∙ r .2 .size-same;
-        })
+        },
+      )
 
   pub sweeps-is : (s : State) → Loyal m l s → (t : State) × (sweeps (plain m) l s ≡ (Ok tt, t)) × Fine m keeps l laws s t (cells s)
   sweeps-is s h =
@@ -70,12 +72,14 @@ module _ (m : Meaning) (keeps : Keeps m) {T V : Type 0} (l : T → Tallying V) (
     reads-in : a < s .size → (t : State) × (reads (plain m) l a s ≡ (Ok (getD (cells s) a 0), t)) × Fine m keeps l laws s t (cells s)
     reads-in lt =
         let q = visit-is s a None h lt (getD (cells s) a 0) refl below in
-        let b = lt-ltb a (s .size) lt in
-        (q .0, unbroken-is (s .broken) s _ (h .unbroken) ∙ rw b (ap (settled at-broken) (q .1)),
+        let b = lt-ltb a (s .size) lt in (
+          q .0,
+          unbroken-is (s .broken) s _ (h .unbroken) ∙ rw b (ap (settled at-broken) (q .1)),
           record {
             holds = record { loyal = q .2 .holds .loyal; cells-are = q .2 .holds .cells-are ∙ set-getD (cells s) a 0; width-is = q .2 .holds .width-is; height-is = q .2 .holds .height-is };
             size-same = q .2 .size-same;
-          })
+          },
+        )
 
     reads-out : s .size ≤ a → reads (plain m) l a s ≡ (Err (fault NoSuchCell (height (plain m) l s) a), s)
     reads-out le = let b = le-ltb a (s .size) le in unbroken-is (s .broken) s _ (h .unbroken) ∙ rw b
@@ -84,14 +88,14 @@ module _ (m : Meaning) (keeps : Keeps m) {T V : Type 0} (l : T → Tallying V) (
     pub reads-is : (t : State) × (reads (plain m) l a s ≡ (reading (height (plain m) l s) (s .size) (cells s) a, t)) × Fine m keeps l laws s t (cells s)
     reads-is =
         ⊎-elim
-          (λ (lt : a < s .size).
-            let q = reads-in lt in
-            let e : reading (height (plain m) l s) (s .size) (cells s) a ≡ Ok (getD (cells s) a 0) = rw (lt-ltb a (s .size) lt) in
-            (q .0, q .1 ∙ ap (λ (r : Result ℕ Fault). (r, q .0)) (sym e), q .2))
-          (λ (le : s .size ≤ a).
-            let e : reading (height (plain m) l s) (s .size) (cells s) a ≡ Err (fault NoSuchCell (height (plain m) l s) a) = rw (le-ltb a (s .size) le) in
-            (s, reads-out le ∙ ap (λ (r : Result ℕ Fault). (r, s)) (sym e), unmoved m keeps l laws s h))
-          (cases-lt a (s .size))
+        (λ (lt : a < s .size).
+        let q = reads-in lt in
+        let e : reading (height (plain m) l s) (s .size) (cells s) a ≡ Ok (getD (cells s) a 0) = rw (lt-ltb a (s .size) lt) in
+        (q .0, q .1 ∙ ap (λ (r : Result ℕ Fault). (r, q .0)) (sym e), q .2))
+        (λ (le : s .size ≤ a).
+        let e : reading (height (plain m) l s) (s .size) (cells s) a ≡ Err (fault NoSuchCell (height (plain m) l s) a) = rw (le-ltb a (s .size) le) in
+        (s, reads-out le ∙ ap (λ (r : Result ℕ Fault). (r, s)) (sym e), unmoved m keeps l laws s h))
+        (cases-lt a (s .size))
 
     module _ (v : ℕ) where
       writes-in : a < s .size → v < 2 ^ s .width → (t : State) × (writes (plain m) l a v s ≡ (Ok tt, t)) × Fine m keeps l laws s t (set (cells s) a v)
@@ -109,22 +113,22 @@ module _ (m : Meaning) (keeps : Keeps m) {T V : Type 0} (l : T → Tallying V) (
       pub writes-is : (t : State) × (writes (plain m) l a v s ≡ (writing (height (plain m) l s) (s .size) (s .width) a v, t)) × Fine m keeps l laws s t (written (s .size) (s .width) (cells s) a v)
       writes-is =
           ⊎-elim
-            (λ (lt : a < s .size). let b = lt-ltb a (s .size) lt in
-              ⊎-elim
-                (λ (small : v < 2 ^ s .width).
-                  let q = writes-in lt small in let n = lt-ltb v (2 ^ s .width) small in
-                  let e : writing (height (plain m) l s) (s .size) (s .width) a v ≡ Ok tt = rw (b, n) in
-                  (q .0, q .1 ∙ ap (λ (r : Result (Unit {0}) Fault). (r, q .0)) (sym e), rw (b, n) (q .2)))
-                (λ (le : 2 ^ s .width ≤ v).
-                  let n = le-ltb v (2 ^ s .width) le in
-                  let e : writing (height (plain m) l s) (s .size) (s .width) a v ≡ Err (fault WordTooWide (height (plain m) l s) a) = rw (b, n) in
-                  (s, writes-wide lt le ∙ ap (λ (r : Result (Unit {0}) Fault). (r, s)) (sym e), rw (b, n) (unmoved m keeps l laws s h)))
-                (cases-lt v (2 ^ s .width)))
-            (λ (le : s .size ≤ a).
-              let b = le-ltb a (s .size) le in
-              let e : writing (height (plain m) l s) (s .size) (s .width) a v ≡ Err (fault NoSuchCell (height (plain m) l s) a) = rw b in
-              (s, writes-out le ∙ ap (λ (r : Result (Unit {0}) Fault). (r, s)) (sym e), rw b (unmoved m keeps l laws s h)))
-            (cases-lt a (s .size))
+          (λ (lt : a < s .size). let b = lt-ltb a (s .size) lt in
+          ⊎-elim
+          (λ (small : v < 2 ^ s .width).
+          let q = writes-in lt small in let n = lt-ltb v (2 ^ s .width) small in
+          let e : writing (height (plain m) l s) (s .size) (s .width) a v ≡ Ok tt = rw (b, n) in
+          (q .0, q .1 ∙ ap (λ (r : Result (Unit {0}) Fault). (r, q .0)) (sym e), rw (b, n) (q .2)))
+          (λ (le : 2 ^ s .width ≤ v).
+          let n = le-ltb v (2 ^ s .width) le in
+          let e : writing (height (plain m) l s) (s .size) (s .width) a v ≡ Err (fault WordTooWide (height (plain m) l s) a) = rw (b, n) in
+          (s, writes-wide lt le ∙ ap (λ (r : Result (Unit {0}) Fault). (r, s)) (sym e), rw (b, n) (unmoved m keeps l laws s h)))
+          (cases-lt v (2 ^ s .width)))
+          (λ (le : s .size ≤ a).
+          let b = le-ltb a (s .size) le in
+          let e : writing (height (plain m) l s) (s .size) (s .width) a v ≡ Err (fault NoSuchCell (height (plain m) l s) a) = rw b in
+          (s, writes-out le ∙ ap (λ (r : Result (Unit {0}) Fault). (r, s)) (sym e), rw b (unmoved m keeps l laws s h)))
+          (cases-lt a (s .size))
 
   pub checked-keeps : Keeps (checked m l)
   checked-keeps = record {

@@ -38,7 +38,7 @@ module _ (m : Meaning) {T V : Type 0} (l : T → Tallying V) where
 
   -- calls one after another
   then : {A B : Type 0} (o : Outcome Fault A W) (k : A → W → Outcome Fault B W) (k′ : A → P → Outcome Fault B P) → ((a : A) (s : W) → forgotten (k a s) ≡ k′ a (forget s)) →
-    forgotten (andThen o k) ≡ andThen (forgotten o) k′
+      forgotten (andThen o k) ≡ andThen (forgotten o) k′
   then {A} {B} o k k′ h = by-answer (o .0) (o .1)
     where
       by-answer : (r : Result A Fault) (s : W) → forgotten {A = B} (andThen (r, s) k) ≡ andThen (forgotten (r, s)) k′
@@ -76,7 +76,7 @@ module _ (m : Meaning) {T V : Type 0} (l : T → Tallying V) where
   renews a fresh s = then (fetch (watched m) l a s) (rewritten (watched m) l a fresh) (rewritten (plain m) l a fresh) (rewrites a fresh) ∙ ap (λ o. andThen o (rewritten (plain m) l a fresh)) (fetches a s)
 
   steps : {A : Type 0} (step : ℕ → A → W → Outcome Fault A W) (step′ : ℕ → A → P → Outcome Fault A P) → ((k : ℕ) (a : A) (s : W) → forgotten (step k a s) ≡ step′ k a (forget s)) →
-    (k : ℕ) (a : A) (s : W) → forgotten (upTo step k a s) ≡ upTo step′ k a (forget s)
+      (k : ℕ) (a : A) (s : W) → forgotten (upTo step k a s) ≡ upTo step′ k a (forget s)
   unfolding upTo
   steps step step′ h zero a s = refl
   steps step step′ h (suc k) a s = then (upTo step k a s) (step k) (step′ k) (h k) ∙ ap (λ o. andThen o (step′ k)) (steps step step′ h k a s)
@@ -88,7 +88,7 @@ module _ (m : Meaning) {T V : Type 0} (l : T → Tallying V) where
   sweeps-all s =
       let s′ = at-store s (watched m .begins (s .store)) in
       then (swept (watched m) l (s .size) s′) (closed (watched m) l) (closed (plain m) l) closes
-        ∙ ap (λ o. andThen o (closed (plain m) l)) (steps (renewed (watched m) l) (renewed (plain m) l) renews (s .size) (l (s .rule) .start) s′)
+      ∙ ap (λ o. andThen o (closed (plain m) l)) (steps (renewed (watched m) l) (renewed (plain m) l) renews (s .size) (l (s .rule) .start) s′)
 
   readies : (s : W) → forgotten (ready (watched m) l s) ≡ ready (plain m) l (forget s)
   readies s = tested (eqb (s .clock) clock-end) (sweep-all (watched m) l s) (Ok tt, s) _ _ (sweeps-all s) refl
@@ -113,9 +113,9 @@ module _ (m : Meaning) {T V : Type 0} (l : T → Tallying V) where
   pub forget-writes : (a v : ℕ) (s : W) → forgotten (writes (watched m) l a v s) ≡ writes (plain m) l a v (forget s)
   forget-writes a v s =
       unbroken (s .broken) s _ _ (tested (ltb a (s .size)) _ _ _ _
-        (tested (ltb v (2 ^ s .width)) _ _ _ _
-          (breaks (replaced (watched m) l a v s) ∙ ap (settled at-broken) (then (visit (watched m) l a (Some v) s) (done (watched m) l) (done (plain m) l) (λ _ _. refl) ∙ ap (λ o. andThen o (done (plain m) l)) (visits a (Some v) s)))
-          refl) refl)
+      (tested (ltb v (2 ^ s .width)) _ _ _ _
+      (breaks (replaced (watched m) l a v s) ∙ ap (settled at-broken) (then (visit (watched m) l a (Some v) s) (done (watched m) l) (done (plain m) l) (λ _ _. refl) ∙ ap (λ o. andThen o (done (plain m) l)) (visits a (Some v) s)))
+      refl) refl)
 
   pub forget-sweeps : (s : W) → forgotten (sweeps (watched m) l s) ≡ sweeps (plain m) l (forget s)
   forget-sweeps s = unbroken (s .broken) s _ _ (breaks (sweep-all (watched m) l s) ∙ ap (settled at-broken) (sweeps-all s))

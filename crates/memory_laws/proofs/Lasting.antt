@@ -73,9 +73,10 @@ read-true m t ts h = elim (cases-eq (t .got) (m (t .cell))) [ inl p ↦ p | inr 
 module _ (stamp value : ℕ → ℕ) where
   one-kept : (m : ℕ → ℕ) (t : Touch) (b : ℕ) → t .got ≡ m (t .cell) → value (t .put) ≡ value (t .got) → value (update m (t .cell) (t .put) b) ≡ value (m b)
   one-kept m t b e v =
-      elim (cases-eq b (t .cell))
-      [ inl p ↦ ap value (ap (update m (t .cell) (t .put)) p ∙ update-same m (t .cell) (t .put)) ∙ v ∙ ap value (e ∙ ap m (sym p))
-      | inr ne ↦ ap value (update-other m (t .cell) (t .put) b ne) ]
+      elim (cases-eq b (t .cell)) [
+        | inl p ↦ ap value (ap (update m (t .cell) (t .put)) p ∙ update-same m (t .cell) (t .put)) ∙ v ∙ ap value (e ∙ ap m (sym p))
+        | inr ne ↦ ap value (update-other m (t .cell) (t .put) b ne)
+      ]
 
   -- a true sweep leaves each value
   sweep-keeps : (m : ℕ → ℕ) (sw : List Touch) → stale m sw ≡ 0 → Renews stamp value sw → (b : ℕ) → value (words-after m sw b) ≡ value (m b)

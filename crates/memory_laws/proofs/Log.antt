@@ -106,7 +106,7 @@ flat-close n h sw =
     let e : Epoch = record { own = h .own; sweep = sw } in
     let more : List Event = sweep-begins ∷ (pairs sw ++ sweep-ends ∷ []) in
     ap (λ (k : List Event). made-from 0 n ++ k)
-      (append-nil (past-events (h .past ++ e ∷ [])) ∙ past-append (h .past) (e ∷ []) ∙ ap (λ (k : List Event). past-events (h .past) ++ k) (append-nil (epoch-events e)) ∙ sym (append-assoc (past-events (h .past)) (pairs (h .own)) more))
+    (append-nil (past-events (h .past ++ e ∷ [])) ∙ past-append (h .past) (e ∷ []) ∙ ap (λ (k : List Event). past-events (h .past) ++ k) (append-nil (epoch-events e)) ∙ sym (append-assoc (past-events (h .past)) (pairs (h .own)) more))
     ∙ sym (append-assoc (made-from 0 n) (past-events (h .past) ++ pairs (h .own)) more)
 
 pub touches-append : (es fs : List Epoch) → touches (es ++ fs) ≡ touches es ++ touches fs
@@ -140,7 +140,7 @@ misread-epoch : (last : ℕ → ℕ) (e : Epoch) (h : List Event) → misread-fr
 misread-epoch last e h =
     ap (misread-from last) (append-assoc (pairs (e .own)) (sweep-begins ∷ (pairs (e .sweep) ++ sweep-ends ∷ [])) h ∙ ap (λ (k : List Event). pairs (e .own) ++ (sweep-begins ∷ k)) (append-assoc (pairs (e .sweep)) (sweep-ends ∷ []) h))
     ∙ rw (words-after-append last (e .own) (e .sweep))
-      (omega (arith, misread-pairs last (e .own) (sweep-begins ∷ (pairs (e .sweep) ++ sweep-ends ∷ h)), misread-pairs (words-after last (e .own)) (e .sweep) (sweep-ends ∷ h), stale-append last (e .own) (e .sweep)))
+    (omega (arith, misread-pairs last (e .own) (sweep-begins ∷ (pairs (e .sweep) ++ sweep-ends ∷ h)), misread-pairs (words-after last (e .own)) (e .sweep) (sweep-ends ∷ h), stale-append last (e .own) (e .sweep)))
 
 misread-past : (last : ℕ → ℕ) (es : List Epoch) (h : List Event) → misread-from last (past-events es ++ h) ≡ stale last (touches es) + misread-from (words-after last (touches es)) h
 misread-past last [] h = omega arith
@@ -162,7 +162,7 @@ misread-made a (suc k) h = ap (λ (last : ℕ → ℕ). misread-from last (made-
 pub misread-flat : (n : ℕ) (h : Hist) → misread (flat n h) ≡ stale zeros (all h)
 misread-flat n h =
     let e : misread-from (words-after zeros (touches (h .past))) (pairs (h .own)) ≡ stale (words-after zeros (touches (h .past))) (h .own) =
-        ap (misread-from (words-after zeros (touches (h .past)))) (sym (append-nil (pairs (h .own)))) ∙ (let q = misread-pairs (words-after zeros (touches (h .past))) (h .own) [] in omega arith) in
+    ap (misread-from (words-after zeros (touches (h .past)))) (sym (append-nil (pairs (h .own)))) ∙ (let q = misread-pairs (words-after zeros (touches (h .past))) (h .own) [] in omega arith) in
     misread-made 0 n (past-events (h .past) ++ pairs (h .own)) ∙ omega (arith, misread-past zeros (h .past) (pairs (h .own)), stale-append zeros (touches (h .past)) (h .own), e)
 
 -- the epochs that events tell
@@ -292,15 +292,16 @@ cut p (x ∷ es) own before since q e =
     let rest : List Event = past-events es ++ pairs own in
     let ends : epoch-events x ≡ inner ++ sweep-ends ∷ [] = sym (append-assoc (pairs (x .own)) (sweep-begins ∷ pairs (x .sweep)) (sweep-ends ∷ [])) in
     let shape : (h : List Event) → p ++ (epoch-events x ++ h) ≡ xs ++ sweep-ends ∷ h =
-        λ h. ap (λ (k : List Event). p ++ (k ++ h)) ends ∙ ap (λ (k : List Event). p ++ k) (append-assoc inner (sweep-ends ∷ []) h) ∙ sym (append-assoc p inner (sweep-ends ∷ h)) in
+    λ h. ap (λ (k : List Event). p ++ (k ++ h)) ends ∙ ap (λ (k : List Event). p ++ k) (append-assoc inner (sweep-ends ∷ []) h) ∙ sym (append-assoc p inner (sweep-ends ∷ h)) in
     let e′ : xs ++ sweep-ends ∷ rest ≡ before ++ sweep-ends ∷ since =
-        sym (shape rest) ∙ ap (λ (k : List Event). p ++ k) (sym (append-assoc (epoch-events x) (past-events es) (pairs own))) ∙ e in
+    sym (shape rest) ∙ ap (λ (k : List Event). p ++ k) (sym (append-assoc (epoch-events x) (past-events es) (pairs own))) ∙ e in
     let quiet : Endless xs = endless-append p inner q (endless-append (pairs (x .own)) (sweep-begins ∷ pairs (x .sweep)) (endless-pairs (x .own)) (endless-pairs (x .sweep))) in
-    elim (first-end xs rest before since quiet e′)
-    [ inl b ↦ (1, ap (λ (k : List Event). k ++ sweep-ends ∷ []) b ∙ sym (shape []))
-    | inr r ↦
-        let c = cut [] es own (r .0) since tt (r .2) in
-        (suc (c .0), ap (λ (k : List Event). k ++ sweep-ends ∷ []) (r .1) ∙ append-assoc xs (sweep-ends ∷ r .0) (sweep-ends ∷ []) ∙ ap (λ (k : List Event). xs ++ sweep-ends ∷ k) (c .1) ∙ sym (shape (past-events (take (c .0) es)))) ]
+    elim (first-end xs rest before since quiet e′) [
+      | inl b ↦ (1, ap (λ (k : List Event). k ++ sweep-ends ∷ []) b ∙ sym (shape []))
+      | inr r ↦
+          let c = cut [] es own (r .0) since tt (r .2) in
+          (suc (c .0), ap (λ (k : List Event). k ++ sweep-ends ∷ []) (r .1) ∙ append-assoc xs (sweep-ends ∷ r .0) (sweep-ends ∷ []) ∙ ap (λ (k : List Event). xs ++ sweep-ends ∷ k) (c .1) ∙ sym (shape (past-events (take (c .0) es))))
+    ]
 
 pub misread-cut : (n : ℕ) (h : Hist) (before since : List Event) → flat n h ≡ before ++ sweep-ends ∷ since → (k : ℕ) × (misread before ≡ stale zeros (touches (take k (h .past))))
 misread-cut n h before since e =

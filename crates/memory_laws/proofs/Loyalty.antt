@@ -42,7 +42,7 @@ module _ (m : Meaning) (keeps : Keeps m) {T V : Type 0} (l : T → Tallying V) w
 
   module _ (g : ℕ) (xs : List ℕ) (s : State) (d : Holds m (s .width + 20) g xs (s .store)) (a : ℕ) (lt : a < length xs) where
     pub fetch-is : stamp-of (s .width) (getD xs a 0) ≤ s .clock →
-      fetch (plain m) l a s ≡ (Ok (value-of (s .width) (getD xs a 0)), at-read (at-store s (m .read (s .store) a .1)) (l (s .rule) .add (s .read) (record-of a (getD xs a 0))))
+        fetch (plain m) l a s ≡ (Ok (value-of (s .width) (getD xs a 0)), at-read (at-store s (m .read (s .store) a .1)) (l (s .rule) .add (s .read) (record-of a (getD xs a 0))))
     fetch-is past =
         let e = read-is m keeps (s .width + 20) g xs (s .store) d a lt in
         let narrow = lt-ltb _ _ (word-below m keeps (s .width + 20) g xs (s .store) d a lt) in
@@ -50,12 +50,12 @@ module _ (m : Meaning) (keeps : Keeps m) {T V : Type 0} (l : T → Tallying V) w
         rw (e, narrow, early)
 
     pub put-is : (x : ℕ) → x < 2 ^ (s .width + 20) →
-      put (plain m) l a x s ≡ (Ok tt, at-written (at-store s (m .write (s .store) a x .1)) (l (s .rule) .add (s .written) (record-of a x)))
+        put (plain m) l a x s ≡ (Ok tt, at-written (at-store s (m .write (s .store) a x .1)) (l (s .rule) .add (s .written) (record-of a x)))
     put-is x fits = rw (write-is m keeps (s .width + 20) g xs (s .store) d a lt x fits)
 
     renewed-is : (fresh : V) → stamp-of (s .width) (getD xs a 0) ≤ s .clock →
-      let v = value-of (s .width) (getD xs a 0) in
-      renewed (plain m) l a fresh s ≡ (Ok (l (s .rule) .add fresh (record-of a v)), at-read (at-store s (m .write (m .read (s .store) a .1) a v .1)) (l (s .rule) .add (s .read) (record-of a (getD xs a 0))))
+        let v = value-of (s .width) (getD xs a 0) in
+        renewed (plain m) l a fresh s ≡ (Ok (l (s .rule) .add fresh (record-of a v)), at-read (at-store s (m .write (m .read (s .store) a .1) a v .1)) (l (s .rule) .add (s .read) (record-of a (getD xs a 0))))
     renewed-is fresh past =
         let v : ℕ = value-of (s .width) (getD xs a 0) in
         let small : v < 2 ^ s .width = mod-lt (getD xs a 0) (pow-pos (s .width)) in
@@ -93,17 +93,20 @@ module _ (m : Meaning) (keeps : Keeps m) {T V : Type 0} (l : T → Tallying V) w
           let early : stamp-of (s .width) y ≤ s .clock = rw same (past k lt) in
           let step = ap (λ (o : Outcome Fault V State). andThen o (renewed (plain m) l k)) (d .is) ∙ renewed-is g ys t (d .holds) k in-ys (with-records L (L .start) ys k) early in
           let fresh : L .add (with-records L (L .start) ys k) (record-of k v) ≡ with-records L (L .start) zs (suc k) =
-              added L (laws (s .rule)) k (sym (records-past L (laws (s .rule)) (L .start) ys k v k (omega arith))) (sym at-k) in
+          added L (laws (s .rule)) k (sym (records-past L (laws (s .rule)) (L .start) ys k v k (omega arith))) (sym at-k) in
           let taken : L .add (with-records L (s .read) xs k) (record-of k y) ≡ with-records L (s .read) xs (suc k) =
-              added L (laws (s .rule)) k refl same in
-          (σ″, zs, record {
-            holds = write-holds m keeps (s .width + 20) g ys σ′ d′ k in-ys v fits;
-            same-long = length-set ys k v ∙ d .same-long;
-            later = λ j le. getD-set-other ys k j v 0 (omega arith) ∙ d .later j (omega arith);
-            small = λ j ltj. ⊎-elim (λ (e : j ≡ k). rw (e, at-k) below) (λ (ne : j ≡ k → ⊥). rw (getD-set-other ys k j v 0 ne) (d .small j (omega arith))) (cases-eq j k);
-            values = map-set-same (value-of (s .width)) ys k v 0 (mod-mod y (2 ^ s .width)) ∙ d .values;
-            is = step ∙ both (λ u r. (Ok u, at-read (at-store s σ″) r)) fresh taken;
-          })
+          added L (laws (s .rule)) k refl same in (
+            σ″,
+            zs,
+            record {
+              holds = write-holds m keeps (s .width + 20) g ys σ′ d′ k in-ys v fits;
+              same-long = length-set ys k v ∙ d .same-long;
+              later = λ j le. getD-set-other ys k j v 0 (omega arith) ∙ d .later j (omega arith);
+              small = λ j ltj. ⊎-elim (λ (e : j ≡ k). rw (e, at-k) below) (λ (ne : j ≡ k → ⊥). rw (getD-set-other ys k j v 0 ne) (d .small j (omega arith))) (cases-eq j k);
+              values = map-set-same (value-of (s .width)) ys k v 0 (mod-mod y (2 ^ s .width)) ∙ d .values;
+              is = step ∙ both (λ u r. (Ok u, at-read (at-store s σ″) r)) fresh taken;
+            },
+          )
 
       swept-is : Holds m (s .width + 20) g xs (s .store) → (k : ℕ) → k ≤ s .size → (σ : m .State) × (ys : List ℕ) × Done k σ ys
       unfolding upTo with-records
@@ -122,12 +125,15 @@ module _ (m : Meaning) (keeps : Keeps m) {T V : Type 0} (l : T → Tallying V) w
         let p = swept-is (m .height (s .store)) (cells s) s (long s h) (h .stamps) (words-held s h) (s .size) (omega arith) in
         let σ = p .0 in let ys = p .1 in let d = p .2 in
         let t : State = at-epoch (at-read (at-store s σ) (with-records L (s .read) (cells s) (s .size))) (L .start) (with-records L (L .start) ys (s .size)) in
-        let passes : L .same (with-records L (s .read) (cells s) (s .size)) (s .written) ≡ true = laws (s .rule) .same-tells _ _ .1 (h .tallied) in
-        (t, ap (λ (o : Outcome Fault V State). andThen o (closed (plain m) l)) (d .is) ∙ rw passes,
+        let passes : L .same (with-records L (s .read) (cells s) (s .size)) (s .written) ≡ true = laws (s .rule) .same-tells _ _ .1 (h .tallied) in (
+          t,
+          ap (λ (o : Outcome Fault V State). andThen o (closed (plain m) l)) (d .is) ∙ rw passes,
           record {
             holds = record {
               loyal = record {
-                fit = h .fit; unbroken = h .unbroken; in-range = omega arith;
+                fit = h .fit;
+                unbroken = h .unbroken;
+                in-range = omega arith;
                 loyal = d .holds .loyal;
                 size-is = size-is m keeps (s .width + 20) (m .height (s .store)) ys σ (d .holds) ∙ d .same-long;
                 width-is = d .holds .width-is;
@@ -139,7 +145,9 @@ module _ (m : Meaning) (keeps : Keeps m) {T V : Type 0} (l : T → Tallying V) w
               height-is = ap (λ (k : ℕ). min 255 (k + 1)) (d .holds .height-is);
             };
             size-same = refl;
-          }, refl)
+          },
+          refl,
+        )
 
     pub unmoved : (s : State) → Loyal m l s → Fine s s (checked m l .cells s)
     unmoved s h = record { holds = record { loyal = h; cells-are = refl; width-is = refl; height-is = refl }; size-same = refl }
@@ -147,12 +155,12 @@ module _ (m : Meaning) (keeps : Keeps m) {T V : Type 0} (l : T → Tallying V) w
     pub ready-is : (s : State) → Loyal m l s → (t : State) × (ready (plain m) l s ≡ (Ok tt, t)) × Fine s t (checked m l .cells s) × (t .clock < 1048575)
     ready-is s h =
         ⊎-elim
-          (λ (e : s .clock ≡ 1048575). let q = sweep-is s h in let b = eq-eqb _ _ e in (q .0, rw b (q .1), q .2, omega (arith, q .3)))
-          (λ (ne : s .clock ≡ 1048575 → ⊥). let b = ne-eqb _ _ ne in (s, rw b, unmoved s h, omega (arith, h .in-range)))
-          (cases-eq (s .clock) 1048575)
+        (λ (e : s .clock ≡ 1048575). let q = sweep-is s h in let b = eq-eqb _ _ e in (q .0, rw b (q .1), q .2, omega (arith, q .3)))
+        (λ (ne : s .clock ≡ 1048575 → ⊥). let b = ne-eqb _ _ ne in (s, rw b, unmoved s h, omega (arith, h .in-range)))
+        (cases-eq (s .clock) 1048575)
 
     pub turn-is : (s : State) (a : ℕ) (new : Option ℕ) → Loyal m l s → s .clock < 1048575 → a < s .size → (v : ℕ) → valueOr new (value-of (s .width) (getD (cells s) a 0)) ≡ v → v < 2 ^ s .width →
-      (t : State) × (turn (plain m) l a new s ≡ (Ok v, t)) × Fine s t (set (checked m l .cells s) a v)
+        (t : State) × (turn (plain m) l a new s ≡ (Ok v, t)) × Fine s t (set (checked m l .cells s) a v)
     turn-is s a new h early lt v e small =
         let L = l (s .rule) in
         let w = s .width in let c = s .clock in let g = m .height (s .store) in
@@ -168,13 +176,15 @@ module _ (m : Meaning) (keeps : Keeps m) {T V : Type 0} (l : T → Tallying V) w
         let d″ = write-holds m keeps (w + 20) g xs σ′ d′ a in-xs word fits in
         let stamp : stamp-of w word ≡ c + 1 = div-mul-add (c + 1) (2 ^ w) v small in
         let low : value-of w word ≡ v = mod-mul-add (c + 1) (2 ^ w) v small in
-        let t : State = at-written (at-store (at-clock (at-read s (L .add (s .read) (record-of a x))) (c + 1)) σ″) (L .add (s .written) (record-of a word)) in
-        (t,
+        let t : State = at-written (at-store (at-clock (at-read s (L .add (s .read) (record-of a x))) (c + 1)) σ″) (L .add (s .written) (record-of a word)) in (
+          t,
           rw (fetch-is g xs s d a in-xs (h .stamps a lt)) (rw (e) (rw (write-is m keeps (w + 20) g xs σ′ d′ a in-xs word fits))),
           record {
             holds = record {
               loyal = record {
-                fit = h .fit; unbroken = h .unbroken; in-range = omega arith;
+                fit = h .fit;
+                unbroken = h .unbroken;
+                in-range = omega arith;
                 loyal = d″ .loyal;
                 size-is = size-is m keeps (w + 20) g (set xs a word) σ″ d″ ∙ length-set xs a word ∙ long s h;
                 width-is = d″ .width-is;
@@ -188,4 +198,5 @@ module _ (m : Meaning) (keeps : Keeps m) {T V : Type 0} (l : T → Tallying V) w
               height-is = ap (λ (k : ℕ). min 255 (k + 1)) (d″ .height-is);
             };
             size-same = refl;
-          })
+          },
+        )

@@ -50,14 +50,17 @@ module _ (m : Meaning) (keeps : Keeps m) {T V : Type 0} (l : T → Tallying V) (
         let at-k : getD zs k 0 ≡ 0 = getD-set-same ys k 0 0 in-ys in
         let s : Mem (plain m) l = at-written (blank (plain m) l t n w σ) (with-records L (L .start) ys k) in
         let written : L .add (with-records L (L .start) ys k) (record-of k 0) ≡ with-records L (L .start) zs (suc k) =
-            added L (laws t) k (sym (records-past L (laws t) (L .start) ys k 0 k (omega arith))) (sym at-k) in
-        (σ′, zs, record {
-          holds = write-holds m keeps (w + 20) g ys σ (d .holds) k in-ys 0 fits;
-          long = length-set ys k 0 ∙ d .long;
-          empty = λ j ltj. ⊎-elim (λ (q : j ≡ k). rw (q, at-k)) (λ (ne : j ≡ k → ⊥). getD-set-other ys k j 0 0 ne ∙ d .empty j (omega arith)) (cases-eq j k);
-          is = ap (λ (o : Outcome Fault (Unit {0}) (Mem (plain m) l)). andThen o (λ _ s′. put (plain m) l k 0 s′)) (d .is) ∙ put-is m keeps l g ys s (d .holds) k in-ys 0 fits
-              ∙ ap (λ v. (Ok tt, at-written (blank (plain m) l t n w σ′) v)) written;
-        })
+        added L (laws t) k (sym (records-past L (laws t) (L .start) ys k 0 k (omega arith))) (sym at-k) in (
+          σ′,
+          zs,
+          record {
+            holds = write-holds m keeps (w + 20) g ys σ (d .holds) k in-ys 0 fits;
+            long = length-set ys k 0 ∙ d .long;
+            empty = λ j ltj. ⊎-elim (λ (q : j ≡ k). rw (q, at-k)) (λ (ne : j ≡ k → ⊥). getD-set-other ys k j 0 0 ne ∙ d .empty j (omega arith)) (cases-eq j k);
+            is = ap (λ (o : Outcome Fault (Unit {0}) (Mem (plain m) l)). andThen o (λ _ s′. put (plain m) l k 0 s′)) (d .is) ∙ put-is m keeps l g ys s (d .holds) k in-ys 0 fits
+                ∙ ap (λ v. (Ok tt, at-written (blank (plain m) l t n w σ′) v)) written;
+          },
+        )
 
   -- x is a loyal memory that was made over the store σ
   pub record Made (σ : m .State) (x : Mem (plain m) l) : Type 0 where
@@ -75,12 +78,14 @@ module _ (m : Meaning) (keeps : Keeps m) {T V : Type 0} (l : T → Tallying V) (
       let s : Mem (plain m) l = at-written (blank (plain m) l t n w (p .0)) (with-records (l t) (l t .start) ys n) in
       let all : made m l σ t ≡ s = rw fit (ap (λ o. settled at-broken o .1) (d .is)) in
       let zeros : map (value-of w) ys ≡ replicate n 0 = ext-getD 0 _ _ (length-map ys (value-of w) ∙ d .long ∙ sym (length-replicate {A = ℕ} n 0))
-          (λ i lt. let i-in : i < n = omega (arith, length-map ys (value-of w), d .long) in
-            value-at w ys i ∙ ap (value-of w) (d .empty i i-in) ∙ zero-mod (2 ^ w) ∙ sym (getD-replicate {A = ℕ} n i 0 0 i-in)) in
+      (λ i lt. let i-in : i < n = omega (arith, length-map ys (value-of w), d .long) in
+      value-at w ys i ∙ ap (value-of w) (d .empty i i-in) ∙ zero-mod (2 ^ w) ∙ sym (getD-replicate {A = ℕ} n i 0 0 i-in)) in
       rw all (record {
         holds = record {
           loyal = record {
-            fit = (f .0, omega arith); unbroken = refl; in-range = omega arith;
+            fit = (f .0, omega arith);
+            unbroken = refl;
+            in-range = omega arith;
             loyal = d .holds .loyal;
             size-is = size-is m keeps (w + 20) g ys (p .0) (d .holds) ∙ d .long;
             width-is = d .holds .width-is;

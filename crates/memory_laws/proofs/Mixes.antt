@@ -13,7 +13,7 @@ use Rattle.memory_laws.specs.Mix.{multiplied, folded, mix, sum-tally, xor-tall
 mod-mul : (x y n : ℕ) → (x % n * y) % n ≡ (x * y) % n
 mod-mul x y n =
     let parts : x * y ≡ (x / n * y) * n + x % n * y =
-        ap (λ z. z * y) (sym (div-add-mod' x n)) ∙ add-mul (x / n * n) (x % n) y ∙ ap (λ z. z + x % n * y) (mul-assoc (x / n) n y ∙ ap (λ z. x / n * z) (mul-comm n y) ∙ sym (mul-assoc (x / n) y n)) in
+    ap (λ z. z * y) (sym (div-add-mod' x n)) ∙ add-mul (x / n * n) (x % n) y ∙ ap (λ z. z + x % n * y) (mul-assoc (x / n) n y ∙ ap (λ z. x / n * z) (mul-comm n y) ∙ sym (mul-assoc (x / n) y n)) in
     sym (ap (λ z. z % n) parts ∙ mul-add-mod-self-right (x / n * y) n (x % n * y))
 
 -- M times this number is 1 modulo 2 ^ 64
@@ -21,8 +21,8 @@ unmultiplied : (x : ℕ) → (multiplied x * 17428512612931826493) % 2 ^ 64 ≡ 
 unmultiplied x =
     let N : ℕ = 2 ^ 64 in
     mod-mul (x * 0x9E3779B97F4A7C15) 17428512612931826493 N
-      ∙ ap (λ z. z % N) (mul-assoc x 0x9E3779B97F4A7C15 17428512612931826493 ∙ mul-comm x (0x9E3779B97F4A7C15 * 17428512612931826493))
-      ∙ sym (mod-mul (0x9E3779B97F4A7C15 * 17428512612931826493) x N) ∙ ap (λ z. z % N) (mul-comm 1 x ∙ mul-one x)
+    ∙ ap (λ z. z % N) (mul-assoc x 0x9E3779B97F4A7C15 17428512612931826493 ∙ mul-comm x (0x9E3779B97F4A7C15 * 17428512612931826493))
+    ∙ sym (mod-mul (0x9E3779B97F4A7C15 * 17428512612931826493) x N) ∙ ap (λ z. z % N) (mul-comm 1 x ∙ mul-one x)
 
 multiplied-tells : (x y : ℕ) → multiplied x ≡ multiplied y → x % 2 ^ 64 ≡ y % 2 ^ 64
 multiplied-tells x y e = sym (unmultiplied x) ∙ ap (λ z. (z * 17428512612931826493) % 2 ^ 64) e ∙ unmultiplied y
@@ -33,7 +33,7 @@ xor-cancel x k = xor-assoc x k k ∙ ap (bitXor x) (xor-self k) ∙ xor-zero-r x
 folded-twice : (y : ℕ) → y < 2 ^ 64 → folded (folded y) ≡ y
 folded-twice y lt =
     let high : folded y / 2 ^ 32 ≡ y / 2 ^ 32 =
-        xor-shr y (y / 2 ^ 32) 32 ∙ ap (bitXor (y / 2 ^ 32)) (div-div-eq-div-mul y (2 ^ 32) (2 ^ 32) ∙ div-eq-of-lt lt) ∙ xor-zero-r (y / 2 ^ 32) in
+    xor-shr y (y / 2 ^ 32) 32 ∙ ap (bitXor (y / 2 ^ 32)) (div-div-eq-div-mul y (2 ^ 32) (2 ^ 32) ∙ div-eq-of-lt lt) ∙ xor-zero-r (y / 2 ^ 32) in
     ap (bitXor (folded y)) high ∙ xor-cancel y (y / 2 ^ 32)
 
 folded-lt : (y : ℕ) → y < 2 ^ 64 → folded y < 2 ^ 64
@@ -53,7 +53,7 @@ mix-tells k a b la lb e =
     let s : y ≡ z = sym (folded-twice y ly) ∙ ap folded f ∙ folded-twice z lz in
     let t : bitXor a k % 2 ^ 64 ≡ bitXor b k % 2 ^ 64 = multiplied-tells (bitXor a k) (bitXor b k) s in
     let back : (r : ℕ) → r < 2 ^ 64 → bitXor (bitXor r k % 2 ^ 64) (k % 2 ^ 64) ≡ r =
-        λ r lr. sym (xor-mod (bitXor r k) k 64) ∙ ap (λ x. x % 2 ^ 64) (xor-cancel r k) ∙ mod-eq-of-lt lr in
+    λ r lr. sym (xor-mod (bitXor r k) k 64) ∙ ap (λ x. x % 2 ^ 64) (xor-cancel r k) ∙ mod-eq-of-lt lr in
     sym (back a la) ∙ ap (λ x. bitXor x (k % 2 ^ 64)) t ∙ back b lb
 
 add-tells : (v x y : ℕ) → x < 2 ^ 64 → y < 2 ^ 64 → (v + x) % 2 ^ 64 ≡ (v + y) % 2 ^ 64 → x ≡ y

@@ -59,24 +59,24 @@ module _ (m : Meaning) (keeps : Keeps m) {T V : Type 0} (l : T → Tallying V) (
       let q = writes-is m keeps l laws s i a v in
       let t = q .0 in let d = q .2 .holds in
       let one : performed (plain m) l (Write a v) s ≡ (ideally (λ _. Written) (writing h n w a v), t) =
-          ap (told (λ _. Written)) (q .1) ∙ told-ideally (λ _. Written) _ t (d .loyal .unbroken) ∙ ap (λ (r : Result (Unit {0}) Fault). (ideally (λ _. Written) r, t)) (writing-same a v eh en ew) in
+      ap (told (λ _. Written)) (q .1) ∙ told-ideally (λ _. Written) _ t (d .loyal .unbroken) ∙ ap (λ (r : Result (Unit {0}) Fault). (ideally (λ _. Written) r, t)) (writing-same a v eh en ew) in
       ap (λ (r : Answer × P). r .0 ∷ answers (plain m) l cs (r .1)) one
       ∙ ap (λ (rest : List Answer). ideally (λ _. Written) (writing h n w a v) ∷ rest)
-          (loyal-answers h n w (written n w xs a v) cs t (d .loyal) (d .height-is ∙ eh) (q .2 .size-same ∙ en) (d .width-is ∙ ew) (d .cells-are ∙ written-same a v en ew ex))
+      (loyal-answers h n w (written n w xs a v) cs t (d .loyal) (d .height-is ∙ eh) (q .2 .size-same ∙ en) (d .width-is ∙ ew) (d .cells-are ∙ written-same a v en ew ex))
   loyal-answers h n w xs (Read a ∷ cs) s i eh en ew ex =
       let q = reads-is m keeps l laws s i a in
       let t = q .0 in let d = q .2 .holds in
       let one : performed (plain m) l (Read a) s ≡ (ideally Value (reading h n xs a), t) =
-          ap (told Value) (q .1) ∙ told-ideally Value _ t (d .loyal .unbroken) ∙ ap (λ (r : Result ℕ Fault). (ideally Value r, t)) (reading-same a eh en ex) in
+      ap (told Value) (q .1) ∙ told-ideally Value _ t (d .loyal .unbroken) ∙ ap (λ (r : Result ℕ Fault). (ideally Value r, t)) (reading-same a eh en ex) in
       ap (λ (r : Answer × P). r .0 ∷ answers (plain m) l cs (r .1)) one
       ∙ ap (λ (rest : List Answer). ideally Value (reading h n xs a) ∷ rest)
-          (loyal-answers h n w xs cs t (d .loyal) (d .height-is ∙ eh) (q .2 .size-same ∙ en) (d .width-is ∙ ew) (d .cells-are ∙ ex))
+      (loyal-answers h n w xs cs t (d .loyal) (d .height-is ∙ eh) (q .2 .size-same ∙ en) (d .width-is ∙ ew) (d .cells-are ∙ ex))
   loyal-answers h n w xs (Sweep ∷ cs) s i eh en ew ex =
       let q = sweeps-is m keeps l laws s i in
       let t = q .0 in let d = q .2 .holds in
       ap (λ (o : Outcome Fault (Unit {0}) P). told (λ _. Passed) o .0 ∷ answers (plain m) l cs (told (λ _. Passed) o .1)) (q .1)
       ∙ ap (λ (rest : List Answer). Passed ∷ rest)
-          (loyal-answers h n w xs cs t (d .loyal) (d .height-is ∙ eh) (q .2 .size-same ∙ en) (d .width-is ∙ ew) (d .cells-are ∙ ex))
+      (loyal-answers h n w xs cs t (d .loyal) (d .height-is ∙ eh) (q .2 .size-same ∙ en) (d .width-is ∙ ew) (d .cells-are ∙ ex))
 
   module _ (s : m .State) (t : T) (calls : List Call) where
     no-alarm : m .loyal s → 20 < m .width s → all-answers m l s t calls ≡ ideal-answers (min 255 (m .height s + 1)) (m .size s) (m .width s - 20) (replicate (m .size s) 0) calls
@@ -101,16 +101,21 @@ module _ (m : Meaning) (keeps : Keeps m) {T V : Type 0} (l : T → Tallying V) (
 
     pub promised : Promise m l s t calls
     unfolding Started
-    promised = elim (cases-bool (checkable (m .size s) (m .width s)))
-      [ inl e ↦
+    promised = elim (cases-bool (checkable (m .size s) (m .width s))) [
+      | inl e ↦
           let k = started true e in
           record {
             offline = λ i a v lt is answered same. k .offline i a v lt is answered same .1;
-            one-lie = k .one-lie; one-lie-ends = k .one-lie-ends; no-alarm = no-alarm;
+            one-lie = k .one-lie;
+            one-lie-ends = k .one-lie-ends;
+            no-alarm = no-alarm;
           }
       | inr e ↦
           let k = started false e in
           record {
             offline = λ i a v lt is answered same. let z = k .offline i a v lt is answered same .0 in absurd (omega arith);
-            one-lie = k .one-lie; one-lie-ends = k .one-lie-ends; no-alarm = no-alarm;
-          } ]
+            one-lie = k .one-lie;
+            one-lie-ends = k .one-lie-ends;
+            no-alarm = no-alarm;
+          }
+    ]

@@ -35,17 +35,17 @@ module _ {V : Type 0} (l : Tallying V) (laws : Laws l) where
   records-set v xs a x zero lt in-xs = absurd (omega arith)
   records-set v xs a x (suc k) lt in-xs =
       ⊎-elim
-        (λ (e : a ≡ k).
-          let at-a : with-records l v (set xs a x) a ≡ with-records l v xs a = records-past v xs a x a (omega arith) in
-          rw (← e) (ap (λ u. l .add u (record-of a (getD xs a 0))) (added a at-a (getD-set-same xs a x 0 in-xs))
-            ∙ laws .swap (with-records l v xs a) (record-of a x) (record-of a (getD xs a 0))))
-        (λ (n : a ≡ k → ⊥).
-          let ne : k ≢ a = λ e. n (sym e) in let lt′ : a < k = omega arith in
-          ap (λ u. l .add u (record-of a (getD xs a 0))) (added k refl (getD-set-other xs a k x 0 ne))
-            ∙ laws .swap (with-records l v (set xs a x) k) (record-of k (getD xs k 0)) (record-of a (getD xs a 0))
-            ∙ ap (λ w. l .add w (record-of k (getD xs k 0))) (records-set v xs a x k lt′ in-xs)
-            ∙ laws .swap (with-records l v xs k) (record-of a x) (record-of k (getD xs k 0)))
-        (cases-eq a k)
+      (λ (e : a ≡ k).
+      let at-a : with-records l v (set xs a x) a ≡ with-records l v xs a = records-past v xs a x a (omega arith) in
+      rw (← e) (ap (λ u. l .add u (record-of a (getD xs a 0))) (added a at-a (getD-set-same xs a x 0 in-xs))
+      ∙ laws .swap (with-records l v xs a) (record-of a x) (record-of a (getD xs a 0))))
+      (λ (n : a ≡ k → ⊥).
+      let ne : k ≢ a = λ e. n (sym e) in let lt′ : a < k = omega arith in
+      ap (λ u. l .add u (record-of a (getD xs a 0))) (added k refl (getD-set-other xs a k x 0 ne))
+      ∙ laws .swap (with-records l v (set xs a x) k) (record-of k (getD xs k 0)) (record-of a (getD xs a 0))
+      ∙ ap (λ w. l .add w (record-of k (getD xs k 0))) (records-set v xs a x k lt′ in-xs)
+      ∙ laws .swap (with-records l v xs k) (record-of a x) (record-of k (getD xs k 0)))
+      (cases-eq a k)
 
   -- reading a cell's record and writing another keeps the balance
   pub records-exchanged : (v w : V) (xs : List ℕ) (a x n : ℕ) → a < n → a < length xs → with-records l v xs n ≡ w → with-records l (l .add v (record-of a (getD xs a 0))) (set xs a x) n ≡ l .add w (record-of a x)

@@ -117,7 +117,7 @@ module _ (m : Meaning) {T V : Type 0} (l : T → Tallying V) where
   grows-renewed : (a : ℕ) (fresh : V) (s : W) → Grows s (renewed (watched m) l a fresh s .1)
   grows-renewed a fresh s =
       grows-then s (fetch (watched m) l a s) (rewritten (watched m) l a fresh) (grows-fetch a s)
-        (λ v s′. grows-then s′ (on-store (watched m) l s′ (watched m .write (s′ .store) a v)) (retallied (watched m) l a fresh v) (grows-watch s′ (λ _. did-write a v) (λ _. tt) (m .write (s′ .store .below) a v)) (λ _ s″. grows-refl s″))
+      (λ v s′. grows-then s′ (on-store (watched m) l s′ (watched m .write (s′ .store) a v)) (retallied (watched m) l a fresh v) (grows-watch s′ (λ _. did-write a v) (λ _. tt) (m .write (s′ .store .below) a v)) (λ _ s″. grows-refl s″))
 
   grows-upTo : {A : Type 0} (step : ℕ → A → W → Outcome Fault A W) → ((k : ℕ) (a : A) (s : W) → Grows s (step k a s .1)) → (k : ℕ) (a : A) (s : W) → Grows s (upTo step k a s .1)
   unfolding upTo
@@ -127,7 +127,7 @@ module _ (m : Meaning) {T V : Type 0} (l : T → Tallying V) where
   pub grows-turn : (a : ℕ) (new : Option ℕ) (s : W) → Grows s (turn (watched m) l a new s .1)
   grows-turn a new s =
       grows-then s (fetch (watched m) l a s) (restamped (watched m) l a new) (grows-fetch a s)
-        (λ v s′. grows-then s′ (put (watched m) l a _ (at-clock s′ (s′ .clock + 1))) (answered (watched m) l _) (grows-put a _ (at-clock s′ (s′ .clock + 1))) (λ _ s″. grows-refl s″))
+      (λ v s′. grows-then s′ (put (watched m) l a _ (at-clock s′ (s′ .clock + 1))) (answered (watched m) l _) (grows-put a _ (at-clock s′ (s′ .clock + 1))) (λ _ s″. grows-refl s″))
 
   -- a word that was read and accepted
   abbrev after-fetch : W → ℕ → ℕ → m .State → W
@@ -150,6 +150,7 @@ module _ (m : Meaning) {T V : Type 0} (l : T → Tallying V) where
           record { word = x; left = z; low = ltb-true _ _ lo; early = leb-true _ _ ea; value-is = cc; left-is = ap (λ (o : Outcome Fault ℕ W). o .1) h }
       tests x z true false lo ea f g y y′ h = absurd (never f v y s₁ h)
       tests x z false q lo ea f g y y′ h = absurd (never g v y′ s₁ h)
+
       go : (r : Result ℕ Fault) (z : m .State) → andThen (on-store (watched m) l s (watching (s .store .history) (did-read a) (r, z))) (examined (watched m) l a) ≡ (Ok v, s₁) → Fetched s a v s₁
       go (Ok x) z h = tests x z (ltb x (2 ^ (s .width + 20))) (leb (stamp-of (s .width) x) (s .clock)) refl refl _ _ _ _ h
       go (Err f) z h = absurd (never f v _ s₁ h)
@@ -200,13 +201,14 @@ module _ (m : Meaning) {T V : Type 0} (l : T → Tallying V) where
       let g : _≡_ {A = Result ℕ Fault} (Ok (valueOr new u)) (Ok v) = ap (λ (o : Outcome Fault ℕ W). o .0) f in
       let uv : valueOr new u ≡ v = cc in
       let left : after-turn s a (k .word) y (w .0) ≡ s₁ = w .1 ∙ ap (λ (o : Outcome Fault ℕ W). o .1) f in
-      record
-      { word = k .word
-      ; left = w .0
-      ; low = k .low
-      ; early = k .early
-      ; value-is = ap (valueOr new) (k .value-is) ∙ uv
-      ; left-is = subst (λ (x : ℕ). after-turn s a (k .word) (word-of (s .width) (s .clock + 1) x) (w .0) ≡ s₁) uv left }
+      record {
+        word = k .word;
+        left = w .0;
+        low = k .low;
+        early = k .early;
+        value-is = ap (valueOr new) (k .value-is) ∙ uv;
+        left-is = subst (λ (x : ℕ). after-turn s a (k .word) (word-of (s .width) (s .clock + 1) x) (w .0) ≡ s₁) uv left;
+      }
 
   module _ (laws : (t : T) → Laws (l t)) (n w : ℕ) (t : T) (narrow : w ≤ 28) where
     abbrev pub stamp : ℕ → ℕ
@@ -254,12 +256,13 @@ module _ (m : Meaning) {T V : Type 0} (l : T → Tallying V) where
 
     good-push : (h : Hist) (u : Touch) → Good h → Fair stamp n (length (h .own)) u → Good (push h u)
     good-push h u g f =
-        record
-        { past = g .past
-        ; renews = g .renews
-        ; agree = g .agree
-        ; own = within-append n (h .own) (u ∷ []) (g .own) (f .cell, f .got, f .put, tt)
-        ; timed = timed-push stamp 0 (h .own) u (g .timed) (omega (arith, f .early)) (omega (arith, f .next)) }
+        record {
+          past = g .past;
+          renews = g .renews;
+          agree = g .agree;
+          own = within-append n (h .own) (u ∷ []) (g .own) (f .cell, f .got, f .put, tt);
+          timed = timed-push stamp 0 (h .own) u (g .timed) (omega (arith, f .early)) (omega (arith, f .next));
+        }
 
     -- a sweep over all cells whose tallies were found alike
     pub record Faultless (h : Hist) (sw : List Touch) : Type 0 where
@@ -274,30 +277,32 @@ module _ (m : Meaning) {T V : Type 0} (l : T → Tallying V) where
     good-close : (h : Hist) (sw : List Touch) → Good h → Faultless h sw → Good (close h sw)
     good-close h sw g f =
         let e : Epoch = record { own = h .own; sweep = sw } in
-        record
-        { past = sound-close h sw g (f .within) (f .covers)
-        ; renews = each-push (λ e. Renews stamp value (e .sweep)) (h .past) e (g .renews) (f .renews)
-        ; agree = agree-push Tallies (made-records 0 n) (h .past) e (g .agree) (f .tallies)
-        ; own = tt
-        ; timed = tt }
+        record {
+          past = sound-close h sw g (f .within) (f .covers);
+          renews = each-push (λ e. Renews stamp value (e .sweep)) (h .past) e (g .renews) (f .renews);
+          agree = agree-push Tallies (made-records 0 n) (h .past) e (g .agree) (f .tallies);
+          own = tt;
+          timed = tt;
+        }
 
     -- one more touch of the open epoch
     held-turn : (h : Hist) (s : W) (a x y : ℕ) (z : m .State) → Held h s → s .clock < clock-end → Fair stamp n (length (h .own)) (record { cell = a; got = x; put = y }) → Held (push h (record { cell = a; got = x; put = y })) (after-turn s a x y z)
     held-turn h s a x y z i lt f =
         let u : Touch = record { cell = a; got = x; put = y } in
         let L = l t in
-        record
-        { size-is = i .size-is
-        ; width-is = i .width-is
-        ; rule-is = i .rule-is
-        ; sound = i .sound
-        ; clock-is = omega (arith, i .clock-is, length-push (h .own) u)
-        ; in-time = omega arith
-        ; got-is = ap (λ (r : T). l r .add (s .read) (record-of a x)) (i .rule-is) ∙ ap (λ (v : V). L .add v (record-of a x)) (i .got-is) ∙ sym (tallied-more L (L .start) (reads (h .own)) (record-of a x)) ∙ ap (tallied L (L .start)) (sym (reads-append (h .own) (u ∷ [])))
-        ; put-is = ap (λ (r : T). l r .add (s .written) (record-of a y)) (i .rule-is) ∙ ap (λ (v : V). L .add v (record-of a y)) (i .put-is) ∙ sym (tallied-more L (L .start) (began (made-records 0 n) (h .past) ++ writes (h .own)) (record-of a y))
-            ∙ ap (tallied L (L .start)) (append-assoc (began (made-records 0 n) (h .past)) (writes (h .own)) (record-of a y ∷ []) ∙ ap (λ (xs : List ℕ). began (made-records 0 n) (h .past) ++ xs) (sym (writes-append (h .own) (u ∷ []))))
-        ; log-is = ap (λ (xs : List Event). (xs ++ did-read a x ∷ []) ++ did-write a y ∷ []) (i .log-is) ∙ append-assoc (flat n h) (did-read a x ∷ []) (did-write a y ∷ []) ∙ sym (flat-push n h u)
-        ; good = good-push h u (i .good) f }
+        record {
+          size-is = i .size-is;
+          width-is = i .width-is;
+          rule-is = i .rule-is;
+          sound = i .sound;
+          clock-is = omega (arith, i .clock-is, length-push (h .own) u);
+          in-time = omega arith;
+          got-is = ap (λ (r : T). l r .add (s .read) (record-of a x)) (i .rule-is) ∙ ap (λ (v : V). L .add v (record-of a x)) (i .got-is) ∙ sym (tallied-more L (L .start) (reads (h .own)) (record-of a x)) ∙ ap (tallied L (L .start)) (sym (reads-append (h .own) (u ∷ [])));
+          put-is = ap (λ (r : T). l r .add (s .written) (record-of a y)) (i .rule-is) ∙ ap (λ (v : V). L .add v (record-of a y)) (i .put-is) ∙ sym (tallied-more L (L .start) (began (made-records 0 n) (h .past) ++ writes (h .own)) (record-of a y))
+              ∙ ap (tallied L (L .start)) (append-assoc (began (made-records 0 n) (h .past)) (writes (h .own)) (record-of a y ∷ []) ∙ ap (λ (xs : List ℕ). began (made-records 0 n) (h .past) ++ xs) (sym (writes-append (h .own) (u ∷ []))));
+          log-is = ap (λ (xs : List Event). (xs ++ did-read a x ∷ []) ++ did-write a y ∷ []) (i .log-is) ∙ append-assoc (flat n h) (did-read a x ∷ []) (did-write a y ∷ []) ∙ sym (flat-push n h u);
+          good = good-push h u (i .good) f;
+        }
 
     abbrev after-renew : W → ℕ → ℕ → ℕ → m .State → W
     after-renew s a x y z = record { store = record { below = z; history = (s .store .history ++ did-read a x ∷ []) ++ did-write a y ∷ [] }; rule = s .rule; size = s .size; width = s .width; clock = s .clock; read = l (s .rule) .add (s .read) (record-of a x); written = s .written; broken = s .broken }
@@ -322,12 +327,13 @@ module _ (m : Meaning) {T V : Type 0} (l : T → Tallying V) where
         let g : _≡_ {A = Result V Fault} (Ok (l (s .rule) .add fresh (record-of a v))) (Ok fresh₁) = ap (λ (o : Outcome Fault V W). o .0) e′ in
         let fr : l (s .rule) .add fresh (record-of a v) ≡ fresh₁ = cc in
         let left : after-renew s a (k .word) v (o .0) ≡ s₁ = ap (λ (o : Outcome Fault V W). o .1) e′ in
-        record
-        { word = k .word
-        ; left = o .0
-        ; low = k .low
-        ; fresh-is = subst (λ (y : ℕ). l (s .rule) .add fresh (record-of a y) ≡ fresh₁) (sym (k .value-is)) fr
-        ; left-is = subst (λ (y : ℕ). after-renew s a (k .word) y (o .0) ≡ s₁) (sym (k .value-is)) left }
+        record {
+          word = k .word;
+          left = o .0;
+          low = k .low;
+          fresh-is = subst (λ (y : ℕ). l (s .rule) .add fresh (record-of a y) ≡ fresh₁) (sym (k .value-is)) fr;
+          left-is = subst (λ (y : ℕ). after-renew s a (k .word) y (o .0) ≡ s₁) (sym (k .value-is)) left;
+        }
 
     -- a sweep on its way, at cell k
     record Midway (h : Hist) (k : ℕ) (fresh : V) (sw : List Touch) (s : W) : Type 0 where
@@ -348,16 +354,22 @@ module _ (m : Meaning) {T V : Type 0} (l : T → Tallying V) where
 
     mid-start : (h : Hist) (s : W) → Held h s → Midway h 0 (l (s .rule) .start) [] (beginning s)
     mid-start h s i =
-        record
-        { size-is = i .size-is; width-is = i .width-is; rule-is = i .rule-is; sound = i .sound
-        ; got-is = i .got-is ∙ ap (tallied (l t) (l t .start)) (sym (append-nil (reads (h .own))))
-        ; put-is = i .put-is
-        ; fresh-is = ap (λ (r : T). l r .start) (i .rule-is)
-        ; log-is = ap (λ (k : List Event). k ++ sweep-begins ∷ []) (i .log-is)
-        ; within = tt; covers = refl; renews = tt }
+        record {
+          size-is = i .size-is;
+          width-is = i .width-is;
+          rule-is = i .rule-is;
+          sound = i .sound;
+          got-is = i .got-is ∙ ap (tallied (l t) (l t .start)) (sym (append-nil (reads (h .own))));
+          put-is = i .put-is;
+          fresh-is = ap (λ (r : T). l r .start) (i .rule-is);
+          log-is = ap (λ (k : List Event). k ++ sweep-begins ∷ []) (i .log-is);
+          within = tt;
+          covers = refl;
+          renews = tt;
+        }
 
     mid-more : (h : Hist) (k : ℕ) (fresh : V) (sw : List Touch) (s : W) (x y : ℕ) (z : m .State) → Midway h k fresh sw s → k < n → x < 2 ^ (w + 20) → y ≡ value x →
-      Midway h (suc k) (l (s .rule) .add fresh (record-of k y)) (sw ++ record { cell = k; got = x; put = y } ∷ []) (after-renew s k x y z)
+        Midway h (suc k) (l (s .rule) .add fresh (record-of k y)) (sw ++ record { cell = k; got = x; put = y } ∷ []) (after-renew s k x y z)
     mid-more h k fresh sw s x y z i lt low ey =
         let u : Touch = record { cell = k; got = x; put = y } in
         let L = l t in
@@ -365,17 +377,21 @@ module _ (m : Meaning) {T V : Type 0} (l : T → Tallying V) where
         let zero-stamp : stamp y ≡ 0 = ap stamp ey ∙ div-eq-of-lt small in
         let same : value y ≡ value x = ap value ey ∙ mod-eq-of-lt small in
         let yl : y < 2 ^ 48 = word-low w y narrow (value-below w y (rw ey small)) in
-        record
-        { size-is = i .size-is; width-is = i .width-is; rule-is = i .rule-is; sound = i .sound
-        ; got-is = ap (λ (r : T). l r .add (s .read) (record-of k x)) (i .rule-is) ∙ ap (λ (v : V). L .add v (record-of k x)) (i .got-is) ∙ sym (tallied-more L (L .start) (reads (h .own) ++ reads sw) (record-of k x))
-            ∙ ap (tallied L (L .start)) (append-assoc (reads (h .own)) (reads sw) (record-of k x ∷ []) ∙ ap (λ (xs : List ℕ). reads (h .own) ++ xs) (sym (reads-append sw (u ∷ []))))
-        ; put-is = i .put-is
-        ; fresh-is = ap (λ (r : T). l r .add fresh (record-of k y)) (i .rule-is) ∙ ap (λ (v : V). L .add v (record-of k y)) (i .fresh-is) ∙ sym (tallied-more L (L .start) (writes sw) (record-of k y)) ∙ ap (tallied L (L .start)) (sym (writes-append sw (u ∷ [])))
-        ; log-is = ap (λ (xs : List Event). (xs ++ did-read k x ∷ []) ++ did-write k y ∷ []) (i .log-is) ∙ longer (flat n h) (sweep-begins ∷ pairs sw) (did-read k x) (did-write k y)
-            ∙ ap (λ (xs : List Event). flat n h ++ (sweep-begins ∷ xs)) (sym (pairs-append sw (u ∷ [])))
-        ; within = within-append n sw (u ∷ []) (i .within) (lt, word-low w x narrow low, yl, tt)
-        ; covers = sweeps-push 0 k sw u (i .covers) refl
-        ; renews = renews-push stamp value sw u (i .renews) zero-stamp same }
+        record {
+          size-is = i .size-is;
+          width-is = i .width-is;
+          rule-is = i .rule-is;
+          sound = i .sound;
+          got-is = ap (λ (r : T). l r .add (s .read) (record-of k x)) (i .rule-is) ∙ ap (λ (v : V). L .add v (record-of k x)) (i .got-is) ∙ sym (tallied-more L (L .start) (reads (h .own) ++ reads sw) (record-of k x))
+              ∙ ap (tallied L (L .start)) (append-assoc (reads (h .own)) (reads sw) (record-of k x ∷ []) ∙ ap (λ (xs : List ℕ). reads (h .own) ++ xs) (sym (reads-append sw (u ∷ []))));
+          put-is = i .put-is;
+          fresh-is = ap (λ (r : T). l r .add fresh (record-of k y)) (i .rule-is) ∙ ap (λ (v : V). L .add v (record-of k y)) (i .fresh-is) ∙ sym (tallied-more L (L .start) (writes sw) (record-of k y)) ∙ ap (tallied L (L .start)) (sym (writes-append sw (u ∷ [])));
+          log-is = ap (λ (xs : List Event). (xs ++ did-read k x ∷ []) ++ did-write k y ∷ []) (i .log-is) ∙ longer (flat n h) (sweep-begins ∷ pairs sw) (did-read k x) (did-write k y)
+              ∙ ap (λ (xs : List Event). flat n h ++ (sweep-begins ∷ xs)) (sym (pairs-append sw (u ∷ [])));
+          within = within-append n sw (u ∷ []) (i .within) (lt, word-low w x narrow low, yl, tt);
+          covers = sweeps-push 0 k sw u (i .covers) refl;
+          renews = renews-push stamp value sw u (i .renews) zero-stamp same;
+        }
       where
         longer : (xs ys : List Event) (p q : Event) → ((xs ++ ys) ++ p ∷ []) ++ q ∷ [] ≡ xs ++ (ys ++ p ∷ q ∷ [])
         longer xs ys p q = append-assoc (xs ++ ys) (p ∷ []) (q ∷ []) ∙ append-assoc xs ys (p ∷ q ∷ [])
@@ -425,16 +441,23 @@ module _ (m : Meaning) {T V : Type 0} (l : T → Tallying V) where
             let same : s .read ≡ s .written = laws (s .rule) .same-tells (s .read) (s .written) .0 q in
             let ep : Epoch = record { own = h .own; sweep = sw } in
             let fl : Faultless h sw = record { within = i .within; covers = i .covers; renews = i .renews; tallies = sym (i .got-is) ∙ same ∙ i .put-is } in
-            passes _ (record
-            { touched = sw
-            ; faultless = fl
-            ; held = record
-                { size-is = i .size-is; width-is = i .width-is; rule-is = i .rule-is; sound = i .sound; clock-is = refl; in-time = omega arith
-                ; got-is = ap (λ (r : T). l r .start) (i .rule-is)
-                ; put-is = i .fresh-is ∙ ap (tallied (l t) (l t .start)) (sym (append-nil (writes sw)) ∙ ap (λ (xs : List ℕ). xs ++ []) (sym (began-push (made-records 0 n) (h .past) ep)))
-                ; log-is = mid-log h fresh sw s i
-                ; good = good-close h sw g fl }
-            ; at-zero = refl })
+            passes _ (record {
+              touched = sw;
+              faultless = fl;
+              held = record {
+                size-is = i .size-is;
+                width-is = i .width-is;
+                rule-is = i .rule-is;
+                sound = i .sound;
+                clock-is = refl;
+                in-time = omega arith;
+                got-is = ap (λ (r : T). l r .start) (i .rule-is);
+                put-is = i .fresh-is ∙ ap (tallied (l t) (l t .start)) (sym (append-nil (writes sw)) ∙ ap (λ (xs : List ℕ). xs ++ []) (sym (began-push (made-records 0 n) (h .past) ep)));
+                log-is = mid-log h fresh sw s i;
+                good = good-close h sw g fl;
+              };
+              at-zero = refl;
+            })
         go false q f =
             fails f _ (close h sw) (inr (sw, refl)) (record { past = sound-close h sw g (i .within) (i .covers); tail = []; endless = tt; log-is = mid-log h fresh sw s i ∙ sym (append-nil (flat n (close h sw))) })
 
@@ -475,20 +498,22 @@ module _ (m : Meaning) {T V : Type 0} (l : T → Tallying V) where
         let vl : v < 2 ^ w = let q = narrow-new (value (k .word)) (mod-below (k .word) (2 ^ w) (pow-pos w)) in omega (arith, q, got) in
         let yw : y ≡ word-of w (s .clock + 1) v = ap (λ (d : ℕ). word-of d (s .clock + 1) v) wi in
         let ci = i .clock-is in
-        let fair : Fair stamp n (length (h₁ .own)) u = record
-            { cell = la
-            ; got = word-low w (k .word) narrow (subst (λ (d : ℕ). k .word < 2 ^ (d + 20)) wi (k .low))
-            ; put = subst (λ (z : ℕ). z < 2 ^ 48) (sym yw) (word-fits w (s .clock + 1) v (omega arith) vl narrow)
-            ; early = let q : k .word / 2 ^ w ≤ s .clock = subst (λ (d : ℕ). stamp-of d (k .word) ≤ s .clock) wi (k .early) in omega (arith, q, ci)
-            ; next = ap stamp yw ∙ digits-div (s .clock + 1) vl ∙ (let q : s .clock + 1 ≡ suc (length (h₁ .own)) = omega (arith, ci) in q) } in
-        record
-        { before = h₁
-        ; touch = u
-        ; may = may
-        ; cell-is = refl
-        ; put-value = ap value yw ∙ digits-mod (s .clock + 1) vl
-        ; got-value = got
-        ; held = subst (λ (z : W). Held (push h₁ u) z) (k .left-is) (held-turn h₁ s a (k .word) y (k .left) i lt fair) }
+        let fair : Fair stamp n (length (h₁ .own)) u = record {
+          cell = la;
+          got = word-low w (k .word) narrow (subst (λ (d : ℕ). k .word < 2 ^ (d + 20)) wi (k .low));
+          put = subst (λ (z : ℕ). z < 2 ^ 48) (sym yw) (word-fits w (s .clock + 1) v (omega arith) vl narrow);
+          early = let q : k .word / 2 ^ w ≤ s .clock = subst (λ (d : ℕ). stamp-of d (k .word) ≤ s .clock) wi (k .early) in omega (arith, q, ci);
+          next = ap stamp yw ∙ digits-div (s .clock + 1) vl ∙ (let q : s .clock + 1 ≡ suc (length (h₁ .own)) = omega (arith, ci) in q);
+        } in
+        record {
+          before = h₁;
+          touch = u;
+          may = may;
+          cell-is = refl;
+          put-value = ap value yw ∙ digits-mod (s .clock + 1) vl;
+          got-value = got;
+          held = subst (λ (z : W). Held (push h₁ u) z) (k .left-is) (held-turn h₁ s a (k .word) y (k .left) i lt fair);
+        }
 
     -- a visit: the cell was visited, or it left a trail
     pub data Came (h : Hist) (a : ℕ) (new : Option ℕ) : Result ℕ Fault → W → Type 0 where
@@ -509,6 +534,7 @@ module _ (m : Meaning) {T V : Type 0} (l : T → Tallying V) where
         swept-first : {r : Result (Unit {0}) Fault} {s₁ : W} → Ended h r s₁ → Came h a new (andThen (r, s₁) (turned (watched m) l a new) .0) (andThen (r, s₁) (turned (watched m) l a new) .1)
         swept-first (passes s₁ k) = came h (close h (k .touched)) s₁ a new (sweeps-first h (k .touched) (k .faultless)) (inr (k .touched, refl)) (k .held) (omega (arith, k .at-zero)) la narrow-new
         swept-first (fails f s₁ h₁ one tr) = fails f s₁ h₁ one tr
+
         go : (p : Bool) → eqb (s .clock) clock-end ≡ p →
             let o : Outcome Fault ℕ W = andThen (cond {A = Outcome Fault (Unit {0}) W} p (sweep-all (watched m) l s) (Ok tt, s)) (turned (watched m) l a new) in
             Came h a new (o .0) (o .1)

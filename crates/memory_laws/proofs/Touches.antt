@@ -104,9 +104,10 @@ pub present-update : (r : ℕ) (last : ℕ → ℕ) (a w n : ℕ) → a < n → 
 present-update r last a w zero h = absurd (omega arith)
 present-update r last a w (suc k) h =
     let ih : a < k → count r (present (update last a w) k) + cond (eqb (record-of a (last a)) r) 1 0 ≡ count r (present last k) + cond (eqb (record-of a w) r) 1 0 = present-update r last a w k in
-    elim (cases-eq a k)
-    [ inl p ↦ rw (← p, update-same last a w, present-above last a w a (omega arith)) (omega arith)
-    | inr ne ↦ let lt : a < k = omega arith in let d : k ≢ a = omega arith in rw (update-other last a w k d) (omega (arith, ih lt)) ]
+    elim (cases-eq a k) [
+      | inl p ↦ rw (← p, update-same last a w, present-above last a w a (omega arith)) (omega arith)
+      | inr ne ↦ let lt : a < k = omega arith in let d : k ≢ a = omega arith in rw (update-other last a w k d) (omega (arith, ih lt))
+    ]
 
 -- what the reads of some touches should have given
 abbrev pub due : (ℕ → ℕ) → List Touch → List ℕ

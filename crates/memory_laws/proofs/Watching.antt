@@ -118,39 +118,39 @@ module _ (m : Meaning) {T V : Type 0} (l : T → Tallying V) (laws : (t : T) →
     abbrev write-body : ℕ → ℕ → Outcome Fault (Unit {0}) W
     write-body a v =
         cond (ltb a (s .size))
-          (cond (ltb v (2 ^ s .width)) (settled at-broken (replaced (watched m) l a v s)) (Err (fault WordTooWide (height (watched m) l s) a), s))
-          (Err (fault NoSuchCell (height (watched m) l s) a), s)
+        (cond (ltb v (2 ^ s .width)) (settled at-broken (replaced (watched m) l a v s)) (Err (fault WordTooWide (height (watched m) l s) a), s))
+        (Err (fault NoSuchCell (height (watched m) l s) a), s)
 
     pub did : (c : Call) → Did h c (performed (watched m) l c s .0) (performed (watched m) l c s .1)
     did (Read a) =
         ⊎-elim
-          (λ (lt : a < s .size).
-            let la : a < n = omega (arith, i .size-is) in
-            let e = open-told Value (read-body a) (settled at-broken (visit (watched m) l a None s)) (rw (lt-ltb a (s .size) lt)) in
-            subst (λ (o : Answer × W). Did h (Read a) (o .0) (o .1)) (sym e) (reading-did a la (visit-is m l laws n w t narrow h s a None i la (λ x lx. lx))))
-          (λ (le : s .size ≤ a).
-            let e = open-told Value (read-body a) (Err (fault NoSuchCell (height (watched m) l s) a), s) (rw (le-ltb a (s .size) le)) in
-            subst (λ (o : Answer × W). Did h (Read a) (o .0) (o .1)) (sym e) (declining (Read a) _ (λ e. let z : _≡_ {A = ℕ} 0 1 = cc in omega arith) (λ xs. refl)))
-          (cases-lt a (s .size))
+        (λ (lt : a < s .size).
+        let la : a < n = omega (arith, i .size-is) in
+        let e = open-told Value (read-body a) (settled at-broken (visit (watched m) l a None s)) (rw (lt-ltb a (s .size) lt)) in
+        subst (λ (o : Answer × W). Did h (Read a) (o .0) (o .1)) (sym e) (reading-did a la (visit-is m l laws n w t narrow h s a None i la (λ x lx. lx))))
+        (λ (le : s .size ≤ a).
+        let e = open-told Value (read-body a) (Err (fault NoSuchCell (height (watched m) l s) a), s) (rw (le-ltb a (s .size) le)) in
+        subst (λ (o : Answer × W). Did h (Read a) (o .0) (o .1)) (sym e) (declining (Read a) _ (λ e. let z : _≡_ {A = ℕ} 0 1 = cc in omega arith) (λ xs. refl)))
+        (cases-lt a (s .size))
     did (Write a v) =
         ⊎-elim
-          (λ (lt : a < s .size).
-            let la : a < n = omega (arith, i .size-is) in
-            ⊎-elim
-              (λ (small : v < 2 ^ s .width).
-                let lv : v < 2 ^ w = rw (← i .width-is) small in
-                let e = open-told (λ _. Written) (write-body a v) (settled at-broken (replaced (watched m) l a v s)) (rw (lt-ltb a (s .size) lt, lt-ltb v (2 ^ s .width) small)) in
-                subst (λ (o : Answer × W). Did h (Write a v) (o .0) (o .1)) (sym e) (writing-did a v la lv (visit-is m l laws n w t narrow h s a (Some v) i la (λ x lx. lv))))
-              (λ (wide : 2 ^ s .width ≤ v).
-                let wv : 2 ^ w ≤ v = rw (← i .width-is) wide in
-                let e = open-told (λ _. Written) (write-body a v) (Err (fault WordTooWide (height (watched m) l s) a), s) (rw (lt-ltb a (s .size) lt, le-ltb v (2 ^ s .width) wide)) in
-                subst (λ (o : Answer × W). Did h (Write a v) (o .0) (o .1)) (sym e) (declining (Write a v) _ (λ e. let z : _≡_ {A = ℕ} 0 1 = cc in omega arith) (λ xs. rw (lt-ltb a n la, le-ltb v (2 ^ w) wv))))
-              (cases-lt v (2 ^ s .width)))
-          (λ (le : s .size ≤ a).
-            let ln : n ≤ a = omega (arith, i .size-is) in
-            let e = open-told (λ _. Written) (write-body a v) (Err (fault NoSuchCell (height (watched m) l s) a), s) (rw (le-ltb a (s .size) le)) in
-            subst (λ (o : Answer × W). Did h (Write a v) (o .0) (o .1)) (sym e) (declining (Write a v) _ (λ e. let z : _≡_ {A = ℕ} 0 1 = cc in omega arith) (λ xs. rw (le-ltb a n ln))))
-          (cases-lt a (s .size))
+        (λ (lt : a < s .size).
+        let la : a < n = omega (arith, i .size-is) in
+        ⊎-elim
+        (λ (small : v < 2 ^ s .width).
+        let lv : v < 2 ^ w = rw (← i .width-is) small in
+        let e = open-told (λ _. Written) (write-body a v) (settled at-broken (replaced (watched m) l a v s)) (rw (lt-ltb a (s .size) lt, lt-ltb v (2 ^ s .width) small)) in
+        subst (λ (o : Answer × W). Did h (Write a v) (o .0) (o .1)) (sym e) (writing-did a v la lv (visit-is m l laws n w t narrow h s a (Some v) i la (λ x lx. lv))))
+        (λ (wide : 2 ^ s .width ≤ v).
+        let wv : 2 ^ w ≤ v = rw (← i .width-is) wide in
+        let e = open-told (λ _. Written) (write-body a v) (Err (fault WordTooWide (height (watched m) l s) a), s) (rw (lt-ltb a (s .size) lt, le-ltb v (2 ^ s .width) wide)) in
+        subst (λ (o : Answer × W). Did h (Write a v) (o .0) (o .1)) (sym e) (declining (Write a v) _ (λ e. let z : _≡_ {A = ℕ} 0 1 = cc in omega arith) (λ xs. rw (lt-ltb a n la, le-ltb v (2 ^ w) wv))))
+        (cases-lt v (2 ^ s .width)))
+        (λ (le : s .size ≤ a).
+        let ln : n ≤ a = omega (arith, i .size-is) in
+        let e = open-told (λ _. Written) (write-body a v) (Err (fault NoSuchCell (height (watched m) l s) a), s) (rw (le-ltb a (s .size) le)) in
+        subst (λ (o : Answer × W). Did h (Write a v) (o .0) (o .1)) (sym e) (declining (Write a v) _ (λ e. let z : _≡_ {A = ℕ} 0 1 = cc in omega arith) (λ xs. rw (le-ltb a n ln))))
+        (cases-lt a (s .size))
     did Sweep =
         let e = open-told (λ _. Passed) _ (settled at-broken (sweep-all (watched m) l s)) refl in
         subst (λ (o : Answer × W). Did h Sweep (o .0) (o .1)) (sym e) (sweeping-did (sweep-is m l laws n w t narrow h s i))
@@ -193,14 +193,15 @@ module _ (m : Meaning) {T V : Type 0} (l : T → Tallying V) (laws : (t : T) →
       let f : ℕ → ℕ = words-after zeros (all (k .before)) in
       let val : ℕ → ℕ = value m l laws n w t narrow in
       ap (λ (g : ℕ → ℕ). val (g b)) (q .2)
-      ∙ elim (cases-eq b a)
-        [ inl p ↦
+      ∙ elim (cases-eq b a) [
+        | inl p ↦
             let in-xs : a < length xs = omega arith in
             ap (λ (c : ℕ). val (update f c (u .put) b)) (k .cell-is) ∙ ap (λ (c : ℕ). val (update f a (u .put) c)) p ∙ ap val (update-same f a (u .put)) ∙ k .put-value
             ∙ sym (getD-set-same xs a v 0 in-xs) ∙ ap (λ (c : ℕ). getD (set xs a v) c 0) (sym p) ∙ ap (λ (zs : List ℕ). getD zs b 0) (sym (is z))
         | inr ne ↦
             ap (λ (c : ℕ). val (update f c (u .put) b)) (k .cell-is) ∙ ap val (update-other f a (u .put) b ne) ∙ noted-may xs (k .may) note (q .0) b lb
-            ∙ sym (getD-set-other xs a b v 0 ne) ∙ ap (λ (zs : List ℕ). getD zs b 0) (sym (is z)) ]
+            ∙ sym (getD-set-other xs a b v 0 ne) ∙ ap (λ (zs : List ℕ). getD zs b 0) (sym (is z))
+      ]
 
   -- the state after some calls: unbroken with the ideal words, or broken with a trail
   pub data Reached (h : Hist) (ys : List ℕ) (x : W) : Type 0 where
@@ -237,10 +238,10 @@ module _ (m : Meaning) {T V : Type 0} (l : T → Tallying V) (laws : (t : T) →
   step h xs note len (did-write a v s₁ la lv k) =
       let e : written n w xs a v ≡ set xs a v = rw (lt-ltb a n la, lt-ltb v (2 ^ w) lv) in
       well (push (k .before) (k .touch)) (later-trans h (k .before) _ (later-may (k .may)) (later-push (k .before) (k .touch))) (k .held)
-        (noted-visit h a v (Some v) s₁ xs (written n w xs a v) la len k note (λ _. e)) (ap length e ∙ length-set xs a v ∙ len)
+      (noted-visit h a v (Some v) s₁ xs (written n w xs a v) la len k note (λ _. e)) (ap length e ∙ length-set xs a v ∙ len)
   step h xs note len (did-read a v s₁ la k) =
       well (push (k .before) (k .touch)) (later-trans h (k .before) _ (later-may (k .may)) (later-push (k .before) (k .touch))) (k .held)
-        (read-notes h a v s₁ xs la len k note) len
+      (read-notes h a v s₁ xs la len k note) len
   step h xs note len (did-sweep s₁ k) =
       well (close h (k .touched)) (later-close h (k .touched)) (k .held) (noted-close _ _ n xs h (k .touched) (k .faultless .renews) note) len
   step h xs note len (did-decline c f s₁ i no-sweep e) = subst (λ (ys : List ℕ). Reached h ys s₁) (sym (e xs)) (well h (later-refl h) i note len)
@@ -256,6 +257,6 @@ module _ (m : Meaning) {T V : Type 0} (l : T → Tallying V) (laws : (t : T) →
           Reached h (ideal-words n w xs (c ∷ cs)) (after (watched m) l cs (performed (watched m) l c s .1))
       go (well h₁ p j k e) rest =
           subst (λ (ys : List ℕ). Reached h ys (after (watched m) l cs (performed (watched m) l c s .1))) (ideal-step xs c cs)
-            (reached-on h h₁ _ _ p (rest h₁ (ideal-words n w xs (c ∷ [])) j k e))
+          (reached-on h h₁ _ _ p (rest h₁ (ideal-words n w xs (c ∷ [])) j k e))
       go (ill f h₁ b p tr) rest =
           subst (λ (x : W). Reached h (ideal-words n w xs (c ∷ cs)) x) (sym (broken-after cs (performed (watched m) l c s .1) f b)) (ill f h₁ b p tr)

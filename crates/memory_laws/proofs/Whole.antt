@@ -47,7 +47,7 @@ module _ (m : Meaning) {T V : Type 0} (l : T → Tallying V) (laws : (t : T) →
   pub record Kept (n w : ℕ) (s : W) (calls : List Call) : Type 0 where
     pub offline : (i a v : ℕ) → i < length calls → getD calls i Sweep ≡ Read a → getD (answers (watched m) l calls s) i Passed ≡ Value v →
         ((j : ℕ) → j ≤ length (epochs (events (after (watched m) l (take (suc i) calls) s))) →
-            (j < length (epochs (events (after (watched m) l calls s)))) × Same (getD (epochs (events (after (watched m) l calls s))) j no-bags .got) (getD (epochs (events (after (watched m) l calls s))) j no-bags .put)) →
+        (j < length (epochs (events (after (watched m) l calls s)))) × Same (getD (epochs (events (after (watched m) l calls s))) j no-bags .got) (getD (epochs (events (after (watched m) l calls s))) j no-bags .put)) →
         (a < n) × (v ≡ getD (ideal-words n w (replicate n 0) (take i calls)) a 0)
     pub one-lie : (i : ℕ) → i < length calls → getD calls i Sweep ≡ Sweep → misread (events (after (watched m) l (take (suc i) calls) s)) ≡ 1 →
         (f : Fault) × (getD (answers (watched m) l calls s) i Passed ≡ Failed f)
@@ -103,7 +103,7 @@ module _ (m : Meaning) {T V : Type 0} (l : T → Tallying V) (laws : (t : T) →
     never-one : (h : Hist) (s : W) → Holding h s → (k : ℕ) → stale zeros (touches (take k (h .past))) ≢ 1
     never-one h s i k =
         one-shows-from (l t) (laws t) (l t .start) _ n zeros (made-records 0 n) (take k (h .past)) few low (made-same n)
-          (each-take _ (h .past) k (i .good .past)) (agree-take (λ r x. tallied (l t) (l t .start) r ≡ tallied (l t) (l t .start) x) (made-records 0 n) (h .past) k (i .good .agree))
+        (each-take _ (h .past) k (i .good .past)) (agree-take (λ r x. tallied (l t) (l t .start) r ≡ tallied (l t) (l t .start) x) (made-records 0 n) (h .past) k (i .good .agree))
 
     all-epochs : (h : Hist) → h .own ≡ [] → (take (length (h .past)) (h .past)) ≡ h .past → all h ≡ touches (take (length (h .past)) (h .past))
     all-epochs h e p = ap (λ (k : List Touch). touches (h .past) ++ k) e ∙ append-nil (touches (h .past)) ∙ ap touches (sym p)
@@ -133,9 +133,9 @@ module _ (m : Meaning) {T V : Type 0} (l : T → Tallying V) (laws : (t : T) →
       ill-answer i f lt b = answer-at (watched m) l calls s i lt ∙ ap (λ (r : Answer × W). r .0) (broken-performed m l laws n w t narrow (getD calls i Sweep) (at i) f b)
 
       reading : (i a v : ℕ) → i < length calls → getD calls i Sweep ≡ Read a → getD (answers (watched m) l calls s) i Passed ≡ Value v →
-        ((j : ℕ) → j ≤ length (epochs (events (at (suc i)))) →
-            (j < length (epochs (events (after (watched m) l calls s)))) × Same (getD (epochs (events (after (watched m) l calls s))) j no-bags .got) (getD (epochs (events (after (watched m) l calls s))) j no-bags .put)) →
-        Reached m l laws n w t narrow fresh (ideal-at i) (at i) → (a < n) × (v ≡ getD (ideal-at i) a 0)
+          ((j : ℕ) → j ≤ length (epochs (events (at (suc i)))) →
+          (j < length (epochs (events (after (watched m) l calls s)))) × Same (getD (epochs (events (after (watched m) l calls s))) j no-bags .got) (getD (epochs (events (after (watched m) l calls s))) j no-bags .put)) →
+          Reached m l laws n w t narrow fresh (ideal-at i) (at i) → (a < n) × (v ≡ getD (ideal-at i) a 0)
       reading i a v lt is answered same (ill f h₁ b p tr) = let q = ill-answer i f lt b in let z : _≡_ {A = ℕ} 0 1 = cc in absurd (omega arith)
       reading i a v lt is answered same (well h₁ p j note len) =
           let c = getD calls i Sweep in
@@ -145,43 +145,44 @@ module _ (m : Meaning) {T V : Type 0} (l : T → Tallying V) (laws : (t : T) →
           let h₂ = push (k .before) (k .touch) in
           let here : at (suc i) ≡ s₁ = after-one (watched m) l calls s i lt in
           let end : after (watched m) l calls s ≡ after (watched m) l (drop (suc i) calls) s₁ =
-              after-rest (watched m) l calls s (suc i) ∙ ap (after (watched m) l (drop (suc i) calls)) here in
+          after-rest (watched m) l calls s (suc i) ∙ ap (after (watched m) l (drop (suc i) calls)) here in
           let r = trail-of (reach m l laws n w t narrow (drop (suc i) calls) s₁ h₂ (ideal-at i) (k .held) (read-notes m l laws n w t narrow h₁ a v s₁ (ideal-at i) la len k note) len) in
           let h₃ = r .0 in
           let now : epochs (events (at (suc i))) ≡ bags (made-records 0 n) (h₂ .past) = ap (λ (x : W). epochs (events x)) here ∙ trail-epochs h₂ s₁ (held-trail m l laws n w t narrow h₂ s₁ (k .held)) in
           let then : epochs (events (after (watched m) l calls s)) ≡ bags (made-records 0 n) (h₃ .past) = ap (λ (x : W). epochs (events x)) end ∙ trail-epochs h₃ _ (r .2) in
           let many : length (epochs (events (at (suc i)))) ≡ length (h₂ .past) = ap length now ∙ bags-length (made-records 0 n) (h₂ .past) in
           let more : length (h₂ .past) < length (h₃ .past) =
-              let q = same (length (h₂ .past)) (omega arith) .0 in omega (arith, q, ap length then, bags-length (made-records 0 n) (h₃ .past)) in
+          let q = same (length (h₂ .past)) (omega arith) .0 in omega (arith, q, ap length then, bags-length (made-records 0 n) (h₃ .past)) in
           let agree : Agree Same (made-records 0 n) (take (suc (length (h₂ .past))) (h₃ .past)) =
-              same-take (made-records 0 n) (h₃ .past) (suc (length (h₂ .past)))
-                (λ x lx. subst (λ (bs : List _). Same (getD bs x no-bags .got) (getD bs x no-bags .put)) then (same x (omega arith) .1)) in
+          same-take (made-records 0 n) (h₃ .past) (suc (length (h₂ .past)))
+          (λ x lx. subst (λ (bs : List _). Same (getD bs x no-bags .got) (getD bs x no-bags .put)) then (same x (omega arith) .1)) in
           let none : stale zeros (touches (take (suc (length (h₂ .past))) (h₃ .past))) ≡ 0 =
-              offline-from _ n zeros (made-records 0 n) (take (suc (length (h₂ .past))) (h₃ .past)) low (made-same n) (each-take _ (h₃ .past) (suc (length (h₂ .past))) (r .2 .past)) agree in
+          offline-from _ n zeros (made-records 0 n) (take (suc (length (h₂ .past))) (h₃ .past)) low (made-same n) (each-take _ (h₃ .past) (suc (length (h₂ .past))) (r .2 .past)) agree in
           let true-so-far : stale zeros (all h₂) ≡ 0 = omega (arith, prefix-stale zeros h₂ h₃ (r .1) more, none) in
           (la, read-ideal m l laws n w t narrow h₁ a v s₁ (ideal-at i) la k note true-so-far)
 
       lying : (i : ℕ) → i < length calls → getD calls i Sweep ≡ Sweep → misread (events (at (suc i))) ≡ 1 → Reached m l laws n w t narrow fresh (ideal-at i) (at i) →
-        (f : Fault) × (getD (answers (watched m) l calls s) i Passed ≡ Failed f)
+          (f : Fault) × (getD (answers (watched m) l calls s) i Passed ≡ Failed f)
       lying i lt is one (ill f h₁ b p tr) = (f, ill-answer i f lt b)
       lying i lt is one (well h₁ p j note len) =
           let c = getD calls i Sweep in
           let s₁ : W = performed (watched m) l c (at i) .1 in
-          elim (sweep-did (did m l laws n w t narrow h₁ (at i) j c) is)
-          [ inl k ↦
-              let h₂ = close h₁ (k .touched) in
-              let here : misread (events (at (suc i))) ≡ stale zeros (touches (take (length (h₂ .past)) (h₂ .past))) =
-                  ap (λ (x : W). misread (events x)) (after-one (watched m) l calls s i lt) ∙ ap misread (k .held .log-is) ∙ misread-flat n h₂
-                  ∙ ap (stale zeros) (all-epochs h₂ refl (take-whole (h₂ .past))) in
-              absurd (never-one h₂ s₁ (k .held) (length (h₂ .past)) (sym here ∙ one))
-          | inr q ↦ (q .0, answer-at (watched m) l calls s i lt ∙ q .1) ]
+          elim (sweep-did (did m l laws n w t narrow h₁ (at i) j c) is) [
+            | inl k ↦
+                let h₂ = close h₁ (k .touched) in
+                let here : misread (events (at (suc i))) ≡ stale zeros (touches (take (length (h₂ .past)) (h₂ .past))) =
+                ap (λ (x : W). misread (events x)) (after-one (watched m) l calls s i lt) ∙ ap misread (k .held .log-is) ∙ misread-flat n h₂
+                ∙ ap (stale zeros) (all-epochs h₂ refl (take-whole (h₂ .past))) in
+                absurd (never-one h₂ s₁ (k .held) (length (h₂ .past)) (sym here ∙ one))
+            | inr q ↦ (q .0, answer-at (watched m) l calls s i lt ∙ q .1)
+          ]
         where
           take-whole : {A : Type 0} (xs : List A) → take (length xs) xs ≡ xs
           take-whole [] = refl
           take-whole (x ∷ xs) = ap (λ k. x ∷ k) (take-whole xs)
 
       ending : (i : ℕ) → i < length calls → (before since : List Event) → events (at (suc i)) ≡ before ++ sweep-ends ∷ since → misread before ≡ 1 →
-        accepted (getD (answers (watched m) l calls s) i Passed) → Reached m l laws n w t narrow fresh (ideal-at i) (at i) → ⊥
+          accepted (getD (answers (watched m) l calls s) i Passed) → Reached m l laws n w t narrow fresh (ideal-at i) (at i) → ⊥
       ending i lt before since is one ok (ill f h₁ b p tr) = subst accepted (ill-answer i f lt b) ok
       ending i lt before since is one ok (well h₁ p j note len) =
           let c = getD calls i Sweep in
@@ -219,18 +220,24 @@ module _ (m : Meaning) {T V : Type 0} (l : T → Tallying V) (laws : (t : T) →
         let j = cleared-is z k (b .0) (b .1) (b .2) in
         let p = put-is m l (midway k (j .0)) k 0 u s₁ (ap (put (watched m) l k 0) (sym (j .1)) ∙ b .3) in
         let q : l t .add (tallied (l t) (l t .start) (made-records 0 k)) (record-of k 0) ≡ tallied (l t) (l t .start) (made-records 0 (suc k)) =
-            sym (tallied-more (l t) (l t .start) (made-records 0 k) (record-of k 0)) ∙ ap (tallied (l t) (l t .start)) (sym (made-more 0 k ∙ ap (λ (x : ℕ). made-records 0 k ++ record-of x 0 ∷ []) (zero-add k))) in
+        sym (tallied-more (l t) (l t .start) (made-records 0 k) (record-of k 0)) ∙ ap (tallied (l t) (l t .start)) (sym (made-more 0 k ∙ ap (λ (x : ℕ). made-records 0 k ++ record-of x 0 ∷ []) (zero-add k))) in
         let r : made-from 0 k ++ did-write k 0 ∷ [] ≡ made-from 0 (suc k) = sym (wrote-more 0 k ∙ ap (λ (x : ℕ). made-from 0 k ++ did-write x 0 ∷ []) (zero-add k)) in
         (p .0, sym (p .1) ∙ both-are (p .0) q r)
       where
         both-are : (y : m .State) {v v′ : V} {h h′ : List Event} → v ≡ v′ → h ≡ h′ →
             _≡_ {A = W} (record { store = record { below = y; history = h }; rule = t; size = n; width = w; clock = 0; read = l t .start; written = v; broken = None })
-              (record { store = record { below = y; history = h′ }; rule = t; size = n; width = w; clock = 0; read = l t .start; written = v′; broken = None })
+            (record { store = record { below = y; history = h′ }; rule = t; size = n; width = w; clock = 0; read = l t .start; written = v′; broken = None })
         both-are y p q = rw (p, q)
 
     midway-held : (z : m .State) → Holding fresh (midway n z)
     midway-held z = record {
-      size-is = refl; width-is = refl; rule-is = refl; sound = refl; clock-is = refl; in-time = omega arith; got-is = refl;
+      size-is = refl;
+      width-is = refl;
+      rule-is = refl;
+      sound = refl;
+      clock-is = refl;
+      in-time = omega arith;
+      got-is = refl;
       put-is = ap (tallied (l t) (l t .start)) (sym (append-nil (made-records 0 n)));
       log-is = sym (append-nil (made-from 0 n));
       good = record { past = tt; renews = tt; agree = tt; own = tt; timed = tt };

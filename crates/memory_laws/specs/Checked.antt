@@ -99,10 +99,10 @@ module _ (b : Base) {T V : Type 0} (l : T → Tallying V) where
   abbrev pub examined : ℕ → ℕ → Mem → Outcome Fault ℕ Mem
   examined a x s =
       cond (ltb x (2 ^ (s .width + stamp-bits)))
-        (cond (leb (stamp-of (s .width) x) (s .clock))
-          (Ok (value-of (s .width) x), at-read s (l (s .rule) .add (s .read) (record-of a x)))
-          (Err (fault StampAhead (height s) a), s))
-        (Err (fault WiderThanStore (height s) a), s)
+      (cond (leb (stamp-of (s .width) x) (s .clock))
+      (Ok (value-of (s .width) x), at-read s (l (s .rule) .add (s .read) (record-of a x)))
+      (Err (fault StampAhead (height s) a), s))
+      (Err (fault WiderThanStore (height s) a), s)
 
   abbrev pub fetch : ℕ → Mem → Outcome Fault ℕ Mem
   fetch a s = andThen (on-store s (b .read (s .store) a)) (examined a)
@@ -132,8 +132,8 @@ module _ (b : Base) {T V : Type 0} (l : T → Tallying V) where
   abbrev pub compared : V → Mem → Outcome Fault (Unit {0}) Mem
   compared fresh s =
       cond (l (s .rule) .same (s .read) (s .written))
-        (Ok tt, at-epoch s (l (s .rule) .start) fresh)
-        (Err (fault TalliesDiffer (height s) 0), s)
+      (Ok tt, at-epoch s (l (s .rule) .start) fresh)
+      (Err (fault TalliesDiffer (height s) 0), s)
 
   abbrev pub closed : V → Mem → Outcome Fault (Unit {0}) Mem
   closed fresh s = compared fresh (at-store s (b .ends (s .store)))
@@ -192,8 +192,8 @@ module _ (b : Base) {T V : Type 0} (l : T → Tallying V) where
   abbrev pub opened : ℕ → ℕ → b .State → T → Mem
   opened n w s t =
       cond (checkable n w)
-        (settled at-broken (cleared n (blank t n (w - stamp-bits) s)) .1)
-        (blank t 0 0 s)
+      (settled at-broken (cleared n (blank t n (w - stamp-bits) s)) .1)
+      (blank t 0 0 s)
 
 -- v with the record of the present word of each of the first k cells added
 unfoldable pub with-records : {V : Type 0} → Tallying V → V → List ℕ → ℕ → V

@@ -38,7 +38,7 @@ module _ (m : Meaning) {T V : Type 0} (l : T → Tallying V) (s : m .State) (t :
     -- answered what was last written to the cell. The epoch of a reading is the one that is open when its call ends.
     pub offline : (i a v : ℕ) → i < length calls → getD calls i Sweep ≡ Read a → getD (all-answers calls) i Passed ≡ Value v →
         ((j : ℕ) → j ≤ length (epochs (history (take (suc i) calls))) →
-            (j < length (epochs (history calls))) × Same (getD (epochs (history calls)) j no-bags .got) (getD (epochs (history calls)) j no-bags .put)) →
+        (j < length (epochs (history calls))) × Same (getD (epochs (history calls)) j no-bags .got) (getD (epochs (history calls)) j no-bags .put)) →
         v ≡ getD (ideal (take i calls)) a 0
     -- One lie shows: a sweep up to whose end exactly one word read was not the one last written to its cell does not pass.
     pub one-lie : (i : ℕ) → i < length calls → getD calls i Sweep ≡ Sweep → misread (history (take (suc i) calls)) ≡ 1 →

@@ -50,7 +50,11 @@ fn answer_to<S: Store, T: Tally>(memory: &mut CheckedMemory<S, T>, call: Call) -
 }
 
 // Performs the calls in turn.
-fn perform_all<S: Store, T: Tally>(memory: &mut CheckedMemory<S, T>, calls: &[Call], all: &mut Vec<Answer>)
+fn perform_all<S: Store, T: Tally>(
+    memory: &mut CheckedMemory<S, T>,
+    calls: &[Call],
+    all: &mut Vec<Answer>,
+)
     requires { ⌜ vec-items (now all) ≡ [] ⌝ ∗ ⌜ vec-len (now all) ≡ 0 ⌝ ∗ ⌜ length (now calls) ≤ vec-cap (now all) ⌝ }
     ensures answer { λ _. ⌜ vec-items (now (all .exit)) ≡ answers (plain (S·Store .meaning)) (T·Tally .tallying) (now (calls .entry)) (view (S·Store .state) (now (memory .entry))) ⌝ }
     ensures leaves { λ _. ⌜ view (S·Store .state) (now (memory .exit)) ≡ after (plain (S·Store .meaning)) (T·Tally .tallying) (now (calls .entry)) (view (S·Store .state) (now (memory .entry))) ⌝ }
@@ -62,10 +66,15 @@ fn perform_all<S: Store, T: Tally>(memory: &mut CheckedMemory<S, T>, calls: &[Ca
 
 // Makes a checked memory over the store, performs the calls on it in turn, and gives the store back with the answers.
 // Where there is no memory for the answers, nothing is done.
-pub fn perform<S: Store, T: Tally + Drop>(heap: Global, store: S, tally: T, calls: &[Call]) -> (S, Result<Vec<Answer>, AllocError>)
+pub fn perform<S: Store, T: Tally + Drop>(
+    heap: Global,
+    store: S,
+    tally: T,
+    calls: &[Call],
+) -> (S, Result<Vec<Answer>, AllocError>)
     ensures gives { λ r. ⌜ Cases (r .1)
         (λ v. (vec-items v ≡ all-answers (S·Store .meaning) (T·Tally .tallying) (S·Store .state store) tally (now (calls .entry)))
-            × (S·Store .state (r .0) ≡ left (S·Store .meaning) (T·Tally .tallying) (S·Store .state store) tally (now (calls .entry)) .store .below))
+        × (S·Store .state (r .0) ≡ left (S·Store .meaning) (T·Tally .tallying) (S·Store .state store) tally (now (calls .entry)) .store .below))
         (λ _. r .0 ≡ store) ⌝ }
     ensures keeps { λ r. ⌜ Promise (S·Store .meaning) (T·Tally .tallying) (S·Store .state store) tally (now (calls .entry)) ⌝ }
 {

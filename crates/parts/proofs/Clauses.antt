@@ -51,5 +51,5 @@ module _ (m : Meaning) (k : Keeps m) (w h : ℕ) (xs : List ℕ) (s : m .State) 
         pub write-holds : Holds m w h (set xs a v) (m .write s a v .1)
         write-holds =
             let e : written (m .size s) (m .width s) (m .cells s) a v ≡ set xs a v =
-                rw (lt-ltb a (m .size s) inside, lt-ltb v (2 ^ m .width s) narrow) (ap (λ (ys : List ℕ). set ys a v) (d .cells-are)) in
+            rw (lt-ltb a (m .size s) inside, lt-ltb v (2 ^ m .width s) narrow) (ap (λ (ys : List ℕ). set ys a v) (d .cells-are)) in
             holds-on m (k .write-leaves s (d .loyal) a v) (d .width-is) (d .height-is) e

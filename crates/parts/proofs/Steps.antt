@@ -43,7 +43,7 @@ module _ {F A S : Type 0} (step : ℕ → A → S → Outcome F A S) (a : A) (s 
   upTo-stays k zero f s′ le e = let z : k ≡ 0 = omega arith in rw z at e
   upTo-stays k (suc n) f s′ le e =
       ⊎-elim (λ (q : k ≡ suc n). rw q at e)
-        (λ (q : k ≡ suc n → ⊥). let r : k ≤ n = omega arith in ap (λ (o : Outcome F A S). andThen o (step n)) (upTo-stays k n f s′ r e)) (cases-eq k (suc n))
+      (λ (q : k ≡ suc n → ⊥). let r : k ≤ n = omega arith in ap (λ (o : Outcome F A S). andThen o (step n)) (upTo-stays k n f s′ r e)) (cases-eq k (suc n))
 
   -- a fault at the next step ends them there
   pub upTo-fault : (k n : ℕ) (a′ : A) (s′ : S) (f : F) (s″ : S) → k < n → upTo step k a s ≡ (Ok a′, s′) → Err f ≡ step k a′ s′ .0 → s″ ≡ step k a′ s′ .1 → upTo step n a s ≡ (Err f, s″)

@@ -20,7 +20,11 @@ impl<'a, S: Store> Altering<'a, S> {
     pub fn new(store: S, coming: &'a [Alteration]) -> Altering<'a, S>
         ensures { λ r. ⌜ r .store ≡ store ⌝ ∗ ⌜ now (r .coming) ≡ now (coming .entry) ⌝ ∗ ⌜ r .count ≡ 0 ⌝ }
     {
-        Altering { store, coming, count: 0 }
+        Altering {
+            store,
+            coming,
+            count: 0,
+        }
     }
 
     fn is_due(&self, first: Alteration) -> bool
@@ -55,7 +59,9 @@ impl<'a, S: Store> Altering<'a, S> {
 
 pub impl<S: Store> Store for Altering<'_, S> as AlteringStore {
     ghost meaning = { altering (S·Store .meaning) };
+
     ghost state = { λ s. record { store = S·Store .state (s .store); coming = now (s .coming); count = s .count } };
+
     ghost keeps = { altering-keeps (S·Store .meaning) (S·Store .keeps) };
 
     fn size(&self) -> u64 {

@@ -6,6 +6,7 @@ ghost use denote.Ref.{now};
 ghost use Rattle.parts.specs.Meaning.{fit};
 ghost use Rattle.store_laws.specs.ArrayMachine.{array-meaning};
 ghost use Rattle.store_laws.proofs.ArrayKeeps.{array-keeps};
+use super::BOTTOM_HEIGHT;
 use super::bottom_fault;
 use super::fits;
 use parts::fault::Cause;
@@ -34,7 +35,9 @@ impl<'a> Array<'a> {
 
 pub impl Store for Array<'_> as ArrayStore {
     ghost meaning = { array-meaning };
+
     ghost state = { λ s. record { words = now (s .words); wide = s .width } };
+
     ghost keeps = { array-keeps };
 
     fn size(&self) -> u64 {
@@ -43,11 +46,15 @@ pub impl Store for Array<'_> as ArrayStore {
     }
 
     fn width(&self) -> u32 {
-        if fits(self.words.len() as u64, self.width) { self.width } else { 0 }
+        if fits(self.words.len() as u64, self.width) {
+            self.width
+        } else {
+            0
+        }
     }
 
     fn height(&self) -> u8 {
-        0
+        BOTTOM_HEIGHT
     }
 
     fn read(&mut self, cell: u64) -> Result<u64, Fault> {

@@ -4,11 +4,11 @@ ghost use Rattle.parts.specs.Meaning.{fit, fault};
 use parts::fault::Cause;
 use parts::fault::Fault;
 
+pub mod altering;
 pub mod array;
-
 pub mod replay;
 
-pub mod altering;
+const BOTTOM_HEIGHT: u8 = 0;
 
 const MOST_CELLS: u64 = 4096;
 
@@ -25,5 +25,9 @@ fn fits(n: u64, w: u32) -> bool
 fn bottom_fault(cause: Cause, cell: u64) -> Fault
     ensures { λ r. ⌜ r ≡ fault cause 0 cell ⌝ }
 {
-    Fault { cause, height: 0, place: cell }
+    Fault {
+        cause,
+        height: BOTTOM_HEIGHT,
+        place: cell,
+    }
 }

@@ -3,6 +3,7 @@ ghost use mathlib.Core.Path.{_≡_};
 ghost use denote.Ref.{now};
 ghost use Rattle.store_laws.specs.ReplayMachine.{replay-meaning};
 ghost use Rattle.store_laws.proofs.ReplayKeeps.{replay-keeps};
+use super::BOTTOM_HEIGHT;
 use super::bottom_fault;
 use super::fits;
 use parts::fault::Cause;
@@ -22,25 +23,40 @@ impl<'a> Replay<'a> {
     pub fn new(words: &'a [u64], cells: u64, width: u32) -> Replay<'a>
         ensures { λ r. ⌜ now (r .words) ≡ now (words .entry) ⌝ ∗ ⌜ r .next ≡ 0 ⌝ ∗ ⌜ r .cells ≡ cells ⌝ ∗ ⌜ r .width ≡ width ⌝ }
     {
-        Replay { words, next: 0, cells, width }
+        Replay {
+            words,
+            next: 0,
+            cells,
+            width,
+        }
     }
 }
 
 pub impl Store for Replay<'_> as ReplayStore {
     ghost meaning = { replay-meaning };
+
     ghost state = { λ s. record { words = now (s .words); next = s .next; cells = s .cells; wide = s .width } };
+
     ghost keeps = { replay-keeps };
 
     fn size(&self) -> u64 {
-        if fits(self.cells, self.width) { self.cells } else { 0 }
+        if fits(self.cells, self.width) {
+            self.cells
+        } else {
+            0
+        }
     }
 
     fn width(&self) -> u32 {
-        if fits(self.cells, self.width) { self.width } else { 0 }
+        if fits(self.cells, self.width) {
+            self.width
+        } else {
+            0
+        }
     }
 
     fn height(&self) -> u8 {
-        0
+        BOTTOM_HEIGHT
     }
 
     fn read(&mut self, cell: u64) -> Result<u64, Fault> {

@@ -18,7 +18,7 @@ below-set : (xs : List ℕ) (i v k n : ℕ) → v < n → ((a : ℕ) → a < len
 below-set xs i v k n lv h lt =
     let in-xs : k < length xs = omega (arith, length-set xs i v) in
     ⊎-elim (λ (e : k ≡ i). let here : i < length xs = omega arith in rw (e, getD-set-same) lv)
-      (λ (ne : k ≡ i → ⊥). rw getD-set-other (h k in-xs)) (cases-eq k i)
+    (λ (ne : k ≡ i → ⊥). rw getD-set-other (h k in-xs)) (cases-eq k i)
 
 abbrev at-words : Words → List ℕ → Words
 at-words s xs = record { words = xs; wide = s .wide }
@@ -30,7 +30,7 @@ write-loyal : (s : Words) → array-meaning .loyal s → (a v : ℕ) → array-m
 write-loyal s h a v =
     let Q : List ℕ → Type 0 = λ xs. array-meaning .loyal (at-words s xs) in
     cond-both (ltb a (array-size s)) _ _ Q
-      (λ _. cond-both (ltb v (2 ^ s .wide)) _ _ Q (λ e. set-loyal s h a v (ltb-true v (2 ^ s .wide) e)) (λ _. h)) (λ _. h)
+    (λ _. cond-both (ltb v (2 ^ s .wide)) _ _ Q (λ e. set-loyal s h a v (ltb-true v (2 ^ s .wide) e)) (λ _. h)) (λ _. h)
 
 pub array-keeps : Keeps array-meaning
 array-keeps = record {
@@ -40,8 +40,8 @@ array-keeps = record {
   read-leaves = λ s h a. record { loyal = h; cells-are = refl; width-is = refl; height-is = refl };
   writes = λ s h a v. rw (h .0) refl;
   write-leaves = λ s h a v.
-    let l = write-loyal s h a v in
-    record { loyal = l; cells-are = rw (h .0) refl; width-is = rw (l .0, h .0) refl; height-is = refl };
+      let l = write-loyal s h a v in
+      record { loyal = l; cells-are = rw (h .0) refl; width-is = rw (l .0, h .0) refl; height-is = refl };
 }
 
 -- an array over zeros is loyal where it is fit

@@ -23,10 +23,10 @@ fits s = fit (s .cells) (s .wide)
 abbrev pub replay-read : Recorded → ℕ → Outcome Fault ℕ Recorded
 replay-read s a =
     cond (fits s)
-      (cond (ltb (s .next) (length (s .words)))
-        (Ok (getD (s .words) (s .next) 0), record { words = s .words; next = s .next + 1; cells = s .cells; wide = s .wide })
-        (Err (fault ReplayEnded 0 a), s))
-      (Err (fault NoSuchCell 0 a), s)
+    (cond (ltb (s .next) (length (s .words)))
+    (Ok (getD (s .words) (s .next) 0), record { words = s .words; next = s .next + 1; cells = s .cells; wide = s .wide })
+    (Err (fault ReplayEnded 0 a), s))
+    (Err (fault NoSuchCell 0 a), s)
 
 abbrev pub replay-write : Recorded → ℕ → ℕ → Outcome Fault (Unit {0}) Recorded
 replay-write s a v = cond (fits s) (Ok tt, s) (Err (fault NoSuchCell 0 a), s)

@@ -13,6 +13,7 @@ pub impl Tally for Sum as SumTally {
     type Value = u64;
 
     ghost tallying = { λ t. sum-tally (t .key) };
+
     ghost laws = { λ t. sum-laws (t .key) };
 
     fn start(&self) -> u64 {

@@ -13,6 +13,7 @@ pub impl Tally for Xor as XorTally {
     type Value = u64;
 
     ghost tallying = { λ t. xor-tally (t .key) };
+
     ghost laws = { λ t. xor-laws (t .key) };
 
     fn start(&self) -> u64 {

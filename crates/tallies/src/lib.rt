@@ -3,7 +3,6 @@ ghost use mathlib.Core.Path.{_≡_};
 ghost use Rattle.memory_laws.specs.Mix.{mix};
 
 mod by_sum;
-
 mod by_xor;
 
 pub use by_sum::Sum;

@@ -12,8 +12,10 @@ returns g c =
     let new = c .new-memory .ensures .outcome in
     record {
       keeps = promised m (g .S·Store .keeps) l (g .T·Tally .laws) s (c .args .tally) cs;
-      gives = (c .perform-all .ensures .answer ∙ ap (answers (plain m) l cs) new ∙ watched-answers m l s (c .args .tally) cs,
-        c .into-store .ensures ∙ ap (λ x. x .store) (c .perform-all .ensures .leaves ∙ ap (after (plain m) l cs) new) ∙ watched-left m l s (c .args .tally) cs);
+      gives = (
+        c .perform-all .ensures .answer ∙ ap (answers (plain m) l cs) new ∙ watched-answers m l s (c .args .tally) cs,
+        c .into-store .ensures ∙ ap (λ x. x .store) (c .perform-all .ensures .leaves ∙ ap (after (plain m) l cs) new) ∙ watched-left m l s (c .args .tally) cs,
+      );
     }
 
 pub returns-in-Err : need.returns-in-Err

@@ -9,10 +9,12 @@ loop-i-holds g c = (c .pre .1 .0, refl, begun (plain (g .S·Store .meaning)) (g 
 
 pub loop-i-again : need.loop-i-again
 loop-i-again g c =
-    let e = c .push-reserved .ensures in
-    (omega (arith, e .len, c .loop-i .inv .0), e .capacity ∙ c .loop-i .inv .1,
+    let e = c .push-reserved .ensures in (
+      omega (arith, e .len, c .loop-i .inv .0),
+      e .capacity ∙ c .loop-i .inv .1,
       one-more (plain (g .S·Store .meaning)) (g .T·Tally .tallying) (c .args .calls .now) _ _ (c .loop-i .i) _ _ _ _ _ (c .loop-i-test .taken) (c .loop-i .inv .2)
-        (c .answer-to .ensures .answer) (c .answer-to .ensures .leaves) (e .items))
+          (c .answer-to .ensures .answer) (c .answer-to .ensures .leaves) (e .items),
+    )
 
 pub returns : need.returns
 returns g c =

@@ -12,9 +12,10 @@ loop-cell-holds g c = (refl, rw (c .start-fresh .ensures) (upTo-none _ _ _))
 
 pub loop-cell-again : need.loop-cell-again
 loop-cell-again g c =
-    let told = c .in-Continue-fresh .ensures tt in
-    (told .clock ∙ c .loop-cell .inv .0,
-      upTo-more (renewed (plain (g .S·Store .meaning)) (g .T·Tally .tallying)) _ _ (c .loop-cell .cell) _ _ _ _ (c .loop-cell .inv .1) (told .does .answer) (told .does .leaves))
+    let told = c .in-Continue-fresh .ensures tt in (
+      told .clock ∙ c .loop-cell .inv .0,
+      upTo-more (renewed (plain (g .S·Store .meaning)) (g .T·Tally .tallying)) _ _ (c .loop-cell .cell) _ _ _ _ (c .loop-cell .inv .1) (told .does .answer) (told .does .leaves),
+    )
 
 pub returns-in-Break-fresh : need.returns-in-Break-fresh
 returns-in-Break-fresh g c =

@@ -13,9 +13,10 @@ chosen-below (Some v) old n h lt = h
 
 pub stamped-word-requires : need.stamped-word-requires
 stamped-word-requires g c κs =
-    let told = c .in-Continue-old .ensures tt in
-    (rw (told .clock) (c .pre .1),
-      rw (told .clock, c .unwrap-or-value .ensures) (chosen-below (c .args .new) (c .in-Continue-old .old) _ (c .pre .2) (told .small)))
+    let told = c .in-Continue-old .ensures tt in (
+      rw (told .clock) (c .pre .1),
+      rw (told .clock, c .unwrap-or-value .ensures) (chosen-below (c .args .new) (c .in-Continue-old .old) _ (c .pre .2) (told .small)),
+    )
 
 pub put-requires : need.put-requires
 put-requires g c κs =
@@ -23,5 +24,5 @@ put-requires g c κs =
     let k = c .fetch .last .self .clock in
     let early : k .time < 1048575 = rw (told .clock) (c .pre .1) in
     let small : c .unwrap-or-value .result < 2 ^ k .width =
-        rw (told .clock, c .unwrap-or-value .ensures) (chosen-below (c .args .new) (c .in-Continue-old .old) _ (c .pre .2) (told .small)) in
+    rw (told .clock, c .unwrap-or-value .ensures) (chosen-below (c .args .new) (c .in-Continue-old .old) _ (c .pre .2) (told .small)) in
     (c .pre .0, rw (c .stamped-word .ensures .word) (word-fits (k .width) (k .time + 1) _ (omega arith) small (k .ok .2)))

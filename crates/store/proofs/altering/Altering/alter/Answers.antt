@@ -10,7 +10,7 @@ returns-then-not-is-due g c =
 pub loop-self-again : need.loop-self-again
 loop-self-again g c =
     rw (c .make .ensures .store, c .make .ensures .coming, c .make .ensures .count)
-      (due-now (g .S·Store .meaning) _ _ _ _ (c .loop-self-test .taken) (sym (c .is-due .ensures) ∙ c .if-not-is-due .left) ∙ c .loop-self .inv)
+    (due-now (g .S·Store .meaning) _ _ _ _ (c .loop-self-test .taken) (sym (c .is-due .ensures) ∙ c .if-not-is-due .left) ∙ c .loop-self .inv)
 
 pub returns : need.returns
 returns g c = sym (due-none (g .S·Store .meaning) _ _ _ (omega arith)) ∙ c .loop-self .inv
