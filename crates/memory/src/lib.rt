@@ -1,3 +1,3 @@
 // The checked memory.
 pub mod checked;
-pub mod clock;
+mod clock;

@@ -9,8 +9,8 @@ use lib.Dec.{eqb}
 use lib.ListN.{length, getD, take}
 use Rattle.std.proofs.shelf.Tests.{cases-eq, cases-bool}
 use Rattle.memory_laws.specs.Checked.{record-of}
-use Rattle.memory_laws.specs.History.{Event, did-read, did-write, sweep-begins, sweep-ends, update, misread-from, misread, count, Same, Bags, no-bags, epochs-from, epochs}
-use Rattle.memory_laws.proofs.Touches.{Touch, Epoch, reads, writes, stale, words-after, present, bag-read, bag-written, touches, Each, Agree, stale-append, words-after-append, whole}
+use Rattle.memory_laws.specs.History.{Event, did-read, did-write, sweep-begins, sweep-ends, taken, update, misread-from, misread, count, Same, Bags, no-bags, epochs-from, epochs}
+use Rattle.memory_laws.proofs.Touches.{Touch, Epoch, reads, writes, stale, words-after, present, bag-read, bag-written, touches, Each, Agree, Sweeps, stale-append, words-after-append, whole}
 
 -- the epochs that ended, and the touches of the open one
 pub record Hist : Type 0 where
@@ -241,7 +241,7 @@ head-is [] = 2
 head-is (e ∷ h) = is-end e
 
 -- no end of a sweep is among endless events
-none-among : (xs before since : List Event) → Endless xs → xs ≡ before ++ sweep-ends ∷ since → ⊥
+pub none-among : (xs before since : List Event) → Endless xs → xs ≡ before ++ sweep-ends ∷ since → ⊥
 unfolding head-is is-end tail-of
 none-among [] [] since k e = let z : _≡_ {A = ℕ} 2 1 = ap head-is e in omega arith
 none-among [] (y ∷ before) since k e = let z : _≡_ {A = List Event} [] (y ∷ (before ++ sweep-ends ∷ since)) = e in let q : _≡_ {A = ℕ} 0 1 = cc in omega arith
@@ -302,6 +302,47 @@ cut p (x ∷ es) own before since q e =
           let c = cut [] es own (r .0) since tt (r .2) in
           (suc (c .0), ap (λ (k : List Event). k ++ sweep-ends ∷ []) (r .1) ∙ append-assoc xs (sweep-ends ∷ r .0) (sweep-ends ∷ []) ∙ ap (λ (k : List Event). xs ++ sweep-ends ∷ k) (c .1) ∙ sym (shape (past-events (take (c .0) es))))
     ]
+
+-- the sweep that ended there is that of one of the epochs
+cut-sweep : (P : Epoch → Type 0) (p : List Event) (es : List Epoch) (q before since : List Event) → Endless p → Endless q → Each P es → p ++ (past-events es ++ q) ≡ before ++ sweep-ends ∷ since →
+    (earlier : List Event) × (e : Epoch) × P e × (before ≡ earlier ++ (sweep-begins ∷ pairs (e .sweep)))
+cut-sweep P p [] q before since i j h e = absurd (none-among (p ++ q) before since (endless-append p q i j) e)
+cut-sweep P p (x ∷ es) q before since i j h e =
+    let inner : List Event = pairs (x .own) ++ (sweep-begins ∷ pairs (x .sweep)) in
+    let xs : List Event = p ++ inner in
+    let rest : List Event = past-events es ++ q in
+    let shape : p ++ (epoch-events x ++ rest) ≡ xs ++ sweep-ends ∷ rest =
+    ap (λ (k : List Event). p ++ (k ++ rest)) (sym (append-assoc (pairs (x .own)) (sweep-begins ∷ pairs (x .sweep)) (sweep-ends ∷ [])))
+    ∙ ap (λ (k : List Event). p ++ k) (append-assoc inner (sweep-ends ∷ []) rest) ∙ sym (append-assoc p inner (sweep-ends ∷ rest)) in
+    let e′ : xs ++ sweep-ends ∷ rest ≡ before ++ sweep-ends ∷ since =
+    sym shape ∙ ap (λ (k : List Event). p ++ k) (sym (append-assoc (epoch-events x) (past-events es) q)) ∙ e in
+    let quiet : Endless xs = endless-append p inner i (endless-append (pairs (x .own)) (sweep-begins ∷ pairs (x .sweep)) (endless-pairs (x .own)) (endless-pairs (x .sweep))) in
+    elim (first-end xs rest before since quiet e′) [
+      | inl b ↦ (p ++ pairs (x .own), x, h .0, b ∙ sym (append-assoc p (pairs (x .own)) (sweep-begins ∷ pairs (x .sweep))))
+      | inr r ↦
+          let c = cut-sweep P [] es q (r .0) since tt j (h .1) (r .2) in
+          (xs ++ sweep-ends ∷ c .0, c .1, c .2, r .1 ∙ ap (λ (k : List Event). xs ++ sweep-ends ∷ k) (c .3) ∙ sym (append-assoc xs (sweep-ends ∷ c .0) (sweep-begins ∷ pairs (c .1 .sweep))))
+    ]
+
+-- a sweep over the cells from k up to n
+sweep-taken : (k n : ℕ) (sw : List Touch) → Sweeps k n sw → (words : List (ℕ × ℕ)) × (k + length words ≡ n) × (pairs sw ≡ taken k words)
+sweep-taken k n [] s = ([], omega arith, refl)
+sweep-taken k n (t ∷ ts) s =
+    let r = sweep-taken (suc k) n ts (s .1) in (
+      (t .got, t .put) ∷ r .0,
+      omega (arith, r .1),
+      ap (λ (c : ℕ). did-read c (t .got) ∷ did-write c (t .put) ∷ pairs ts) (s .0) ∙ ap (λ (h : List Event). did-read k (t .got) ∷ did-write k (t .put) ∷ h) (r .2),
+    )
+
+pub whole-sweep : (n : ℕ) (h : Hist) (tail before since : List Event) → Each (λ e. Sweeps 0 n (e .sweep)) (h .past) → Endless tail → flat n h ++ tail ≡ before ++ sweep-ends ∷ since →
+    (earlier : List Event) × (words : List (ℕ × ℕ)) × (length words ≡ n) × (before ≡ earlier ++ (sweep-begins ∷ taken 0 words))
+whole-sweep n h tail before since s j e =
+    let q = pairs (h .own) ++ tail in
+    let e′ : made-from 0 n ++ (past-events (h .past) ++ q) ≡ before ++ sweep-ends ∷ since =
+    sym (append-assoc (made-from 0 n) (past-events (h .past) ++ pairs (h .own)) tail ∙ ap (λ (x : List Event). made-from 0 n ++ x) (append-assoc (past-events (h .past)) (pairs (h .own)) tail)) ∙ e in
+    let c = cut-sweep (λ e. Sweeps 0 n (e .sweep)) (made-from 0 n) (h .past) q before since (endless-made 0 n) (endless-append (pairs (h .own)) tail (endless-pairs (h .own)) j) s e′ in
+    let r = sweep-taken 0 n (c .1 .sweep) (c .2) in
+    (c .0, r .0, omega (arith, r .1), c .3 ∙ ap (λ (x : List Event). c .0 ++ (sweep-begins ∷ x)) (r .2))
 
 pub misread-cut : (n : ℕ) (h : Hist) (before since : List Event) → flat n h ≡ before ++ sweep-ends ∷ since → (k : ℕ) × (misread before ≡ stale zeros (touches (take k (h .past))))
 misread-cut n h before since e =

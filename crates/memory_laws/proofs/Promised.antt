@@ -109,6 +109,7 @@ module _ (m : Meaning) (keeps : Keeps m) {T V : Type 0} (l : T → Tallying V) (
             one-lie = k .one-lie;
             one-lie-ends = k .one-lie-ends;
             no-alarm = no-alarm;
+            whole-sweeps = λ before since cut. let r = k .whole-sweeps before since cut in (r .0, r .1, r .2 ∙ sym (ap (λ (b : Bool). cond b (m .size s) 0) e), r .3);
           }
       | inr e ↦
           let k = started false e in
@@ -117,5 +118,6 @@ module _ (m : Meaning) (keeps : Keeps m) {T V : Type 0} (l : T → Tallying V) (
             one-lie = k .one-lie;
             one-lie-ends = k .one-lie-ends;
             no-alarm = no-alarm;
+            whole-sweeps = λ before since cut. let r = k .whole-sweeps before since cut in (r .0, r .1, r .2 ∙ sym (ap (λ (b : Bool). cond b (m .size s) 0) e), r .3);
           }
     ]

@@ -21,7 +21,7 @@ use Rattle.parts.specs.Outcomes.{Outcome, andThen, upTo}
 use Rattle.parts.specs.Meaning.{Meaning}
 use Rattle.parts.specs.Tallying.{Tallying, Laws}
 use Rattle.parts.proofs.Steps.{never, both-answered}
-use Rattle.memory_laws.specs.Checked.{Memory, Mem, clock-end, record-of, stamp-of, value-of, word-of, at-store, at-read, at-clock, on-store, examined, fetch, counted, put, retallied, rewritten, renewed, swept, compared, closed, sweep-all, ready, answered, restamped, turn, turned, visit}
+use Rattle.memory_laws.specs.Checked.{Memory, Mem, clock-end, record-of, stamp-of, value-of, word-of, at-store, at-read, at-clock, on-store, examined, fetch, counted, put, retallied, rewritten, renewed, swept, compared, closed, sweep-all, ready, answered, restamped, turn, turned, visit, cleared}
 use Rattle.memory_laws.specs.History.{Event, did-read, did-write, sweep-begins, sweep-ends, Watched, watched, watching, noted}
 use Rattle.memory_laws.proofs.Numbers.{word-low, word-fits, value-below}
 use Rattle.memory_laws.proofs.Bags.{tallied, tallied-more}
@@ -123,6 +123,9 @@ module _ (m : Meaning) {T V : Type 0} (l : T → Tallying V) where
   unfolding upTo
   grows-upTo step g zero a s = grows-refl s
   grows-upTo step g (suc k) a s = grows-then s (upTo step k a s) (step k) (grows-upTo step g k a s) (λ x s′. g k x s′)
+
+  pub grows-cleared : (k : ℕ) (s : W) → Grows s (cleared (watched m) l k s .1)
+  grows-cleared k s = grows-upTo (λ a _ s′. put (watched m) l a 0 s′) (λ a _ s′. grows-put a 0 s′) k tt s
 
   pub grows-turn : (a : ℕ) (new : Option ℕ) (s : W) → Grows s (turn (watched m) l a new s .1)
   grows-turn a new s =

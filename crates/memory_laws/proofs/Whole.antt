@@ -23,14 +23,14 @@ use Rattle.memory_laws.specs.declared.call.Call.{Call}
 use Rattle.memory_laws.specs.declared.call.Call.the-variants.{Write, Read, Sweep}
 use Rattle.memory_laws.specs.declared.call.Answer.{Answer}
 use Rattle.memory_laws.specs.declared.call.Answer.the-variants.{Written, Value, Passed, Declined, Failed}
-use Rattle.memory_laws.specs.Checked.{Mem, record-of, at-broken, put, cleared, blank, checkable, opened}
-use Rattle.memory_laws.specs.History.{Event, did-write, sweep-ends, Watched, watched, misread, epochs, no-bags, Same}
+use Rattle.memory_laws.specs.Checked.{Mem, record-of, stamp-of, at-broken, put, cleared, blank, checkable, opened}
+use Rattle.memory_laws.specs.History.{Event, did-write, sweep-begins, sweep-ends, taken, Watched, watched, misread, epochs, no-bags, Same}
 use Rattle.memory_laws.specs.Runs.{performed, accepted, answers, after, ideal-words}
 use Rattle.memory_laws.proofs.Bags.{tallied, tallied-more}
-use Rattle.memory_laws.proofs.Touches.{Touch, stale, touches, Each, Agree, Sound}
+use Rattle.memory_laws.proofs.Touches.{Touch, Epoch, stale, touches, Each, Agree, Sound, Sweeps}
 use Rattle.memory_laws.proofs.Offline.{offline-from, one-shows-from}
-use Rattle.memory_laws.proofs.Log.{Hist, all, fresh, push, close, zeros, flat, bags, bags-length, made-from, made-records, made-same, misread-flat, misread-cut, epochs-flat}
-use Rattle.memory_laws.proofs.Remembers.{Good, Held, Trail, held-trail, Visited, Swept, put-is, after-put}
+use Rattle.memory_laws.proofs.Log.{Hist, all, fresh, push, close, zeros, flat, bags, bags-length, made-from, made-records, made-same, misread-flat, misread-cut, epochs-flat, Endless, none-among, whole-sweep}
+use Rattle.memory_laws.proofs.Remembers.{Good, Held, Trail, held-trail, Visited, Swept, put-is, after-put, Grows, grows-cleared}
 use Rattle.memory_laws.proofs.Lasting.{Later, prefix-stale, each-take, agree-take, same-take}
 use Rattle.memory_laws.proofs.Watching.{answer-at, after-one, after-rest, Did, did, Reached, reach, Notes, broken-performed, broken-after, read-ideal, read-notes}
 use Rattle.memory_laws.proofs.Watching.Did.{did-write as done-write, did-read as done-read, did-sweep, did-decline, did-break}
@@ -53,9 +53,11 @@ module _ (m : Meaning) {T V : Type 0} (l : T → Tallying V) (laws : (t : T) →
         (f : Fault) × (getD (answers (watched m) l calls s) i Passed ≡ Failed f)
     pub one-lie-ends : (i : ℕ) → i < length calls → (before since : List Event) → events (after (watched m) l (take (suc i) calls) s) ≡ before ++ sweep-ends ∷ since →
         misread before ≡ 1 → accepted (getD (answers (watched m) l calls s) i Passed) → ⊥
+    pub whole-sweeps : (before since : List Event) → events (after (watched m) l calls s) ≡ before ++ sweep-ends ∷ since →
+        (earlier : List Event) × (words : List (ℕ × ℕ)) × (length words ≡ n) × (before ≡ earlier ++ (sweep-begins ∷ taken 0 words))
 
   -- of a memory that the making broke
-  module _ (n w : ℕ) (s : W) (f : Fault) (e : s .broken ≡ Some f) (t : T) (calls : List Call) where
+  module _ (n w : ℕ) (s : W) (f : Fault) (e : s .broken ≡ Some f) (quiet : Endless (events s)) (t : T) (calls : List Call) where
     broken-answer : (i : ℕ) → i < length calls → getD (answers (watched m) l calls s) i Passed ≡ Failed f
     broken-answer i lt =
         answer-at (watched m) l calls s i lt ∙ ap (λ (x : W). performed (watched m) l (getD calls i Sweep) x .0) (broken-after m l laws 0 0 t (omega arith) (take i calls) s f e)
@@ -66,6 +68,7 @@ module _ (m : Meaning) {T V : Type 0} (l : T → Tallying V) (laws : (t : T) →
       offline = λ i a v lt is answered same. let q = broken-answer i lt in let z : _≡_ {A = ℕ} 0 1 = cc in absurd (omega arith);
       one-lie = λ i lt is one. (f, broken-answer i lt);
       one-lie-ends = λ i lt before since cut one ok. subst accepted (broken-answer i lt) ok;
+      whole-sweeps = λ before since cut. absurd (none-among (events s) before since quiet (ap events (sym (broken-after m l laws 0 0 t (omega arith) calls s f e)) ∙ cut));
     }
 
   module _ (n w : ℕ) (t : T) (narrow : w ≤ 28) (few : n ≤ 4096) where
@@ -114,6 +117,10 @@ module _ (m : Meaning) {T V : Type 0} (l : T → Tallying V) (laws : (t : T) →
 
     trail-epochs : (h : Hist) (s : W) → Trail m l laws n w t narrow h s → epochs (events s) ≡ bags (made-records 0 n) (h .past)
     trail-epochs h s tr = ap epochs (tr .log-is) ∙ epochs-flat n h (tr .tail) (tr .endless)
+
+    covered : (es : List Epoch) → Each (Sound (stamp-of w) n) es → Each (λ e. Sweeps 0 n (e .sweep)) es
+    covered [] s = tt
+    covered (e ∷ es) s = (s .0 .covers, covered es (s .1))
 
     first-notes : Notes m l laws n w t narrow (replicate n 0) fresh
     first-notes z a lt = zero-mod (2 ^ w) ∙ sym (getD-replicate {A = ℕ} n a 0 0 lt)
@@ -197,6 +204,9 @@ module _ (m : Meaning) {T V : Type 0} (l : T → Tallying V) (laws : (t : T) →
         offline = λ i a v lt is answered same. reading i a v lt is answered same (reached i);
         one-lie = λ i lt is one. lying i lt is one (reached i);
         one-lie-ends = λ i lt before since cut one ok. ending i lt before since cut one ok (reached i);
+        whole-sweeps = λ before since cut.
+            let r = trail-of (reach m l laws n w t narrow calls s fresh (replicate n 0) i₀ first-notes (length-replicate {A = ℕ} n 0)) in
+            whole-sweep n (r .0) (r .2 .tail) before since (covered (r .0 .past) (r .2 .past)) (r .2 .endless) (sym (r .2 .log-is) ∙ cut);
       }
 
     -- the making: unbroken with every cell written, or broken
@@ -248,4 +258,6 @@ module _ (m : Meaning) {T V : Type 0} (l : T → Tallying V) (laws : (t : T) →
       where
         go : (r : Result (Unit {0}) Fault) (s₁ : W) → _≡_ {A = Outcome Fault (Unit {0}) W} (cleared (watched m) l n (midway 0 z)) (r, s₁) → Kept n w (settled at-broken (r, s₁) .1) calls
         go (Ok u) s₁ e = let j = cleared-is z n u s₁ e in kept-from s₁ (subst (λ (x : W). Holding fresh x) (sym (j .1)) (midway-held (j .0))) calls
-        go (Err f) s₁ e = kept-broken n w (at-broken f s₁) f refl t calls
+        go (Err f) s₁ e =
+            let g : Grows m l (midway 0 z) s₁ = subst (λ (o : Outcome Fault (Unit {0}) W). Grows m l (midway 0 z) (o .1)) e (grows-cleared m l n (midway 0 z)) in
+            kept-broken n w (at-broken f s₁) f refl (subst Endless (sym (g .1)) (g .2)) t calls

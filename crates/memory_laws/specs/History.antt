@@ -2,7 +2,7 @@
 use mathlib.Core.Path.{_≡_}
 use mathlib.Core.List.{List, [], _∷_, _++_}
 use mathlib.Core.Bool.{Bool, true, false, cond}
-use Prim.Native.Nat.{ℕ, _+_}
+use Prim.Native.Nat.{ℕ, suc, _+_}
 use lib.Dec.{eqb}
 use Rattle.std.specs.declared.result.Result.the-variants.{Ok, Err}
 use Rattle.parts.specs.declared.fault.Fault.{Fault}
@@ -16,6 +16,11 @@ pub data Event : Type 0 where
   did-write : ℕ → ℕ → Event
   sweep-begins : Event
   sweep-ends : Event
+
+-- the cells from k up, each read with the one word and then written with the other
+abbrev pub taken : ℕ → List (ℕ × ℕ) → List Event
+taken k [] = []
+taken k (w ∷ ws) = did-read k (w .0) ∷ did-write k (w .1) ∷ taken (suc k) ws
 
 -- a store, and its history so far, oldest first
 pub record Watched (S : Type 0) : Type 0 where

@@ -1,6 +1,7 @@
 -- What is promised of every list of calls on a checked memory just made, over any store.
 use mathlib.Core.Path.{_≡_}
 use mathlib.Core.List.{List, [], _∷_, _++_}
+use mathlib.Core.Bool.{cond}
 use Prim.Native.Nat.{ℕ, suc, _-_, _<_, _≤_, min, _+_}
 use lib.ListN.{length, getD, take, replicate}
 use Rattle.parts.specs.declared.fault.Fault.{Fault}
@@ -10,8 +11,8 @@ use Rattle.memory_laws.specs.declared.call.Call.{Call}
 use Rattle.memory_laws.specs.declared.call.Call.the-variants.{Read, Sweep}
 use Rattle.memory_laws.specs.declared.call.Answer.{Answer}
 use Rattle.memory_laws.specs.declared.call.Answer.the-variants.{Value, Passed, Failed}
-use Rattle.memory_laws.specs.Checked.{Mem, stamp-bits, opened}
-use Rattle.memory_laws.specs.History.{Event, sweep-ends, Watched, watched, misread, epochs, Bags, no-bags, Same}
+use Rattle.memory_laws.specs.Checked.{Mem, stamp-bits, checkable, opened}
+use Rattle.memory_laws.specs.History.{Event, sweep-begins, sweep-ends, taken, Watched, watched, misread, epochs, Bags, no-bags, Same}
 use Rattle.memory_laws.specs.Runs.{answers, after, accepted, ideal-words, ideal-answers}
 
 module _ (m : Meaning) {T V : Type 0} (l : T → Tallying V) (s : m .State) (t : T) where
@@ -33,6 +34,10 @@ module _ (m : Meaning) {T V : Type 0} (l : T → Tallying V) (s : m .State) (t :
   abbrev pub ideal : List Call → List ℕ
   ideal calls = ideal-words (m .size s) (m .width s - stamp-bits) (replicate (m .size s) 0) calls
 
+  -- how many cells the memory has: none over a store that cannot be checked
+  abbrev pub cells : ℕ
+  cells = cond (checkable (m .size s) (m .width s)) (m .size s) 0
+
   pub record Promise (calls : List Call) : Type 0 where
     -- The offline check: where every epoch up to that of a reading has ended with one bag read and written, the reading
     -- answered what was last written to the cell. The epoch of a reading is the one that is open when its call ends.
@@ -49,3 +54,6 @@ module _ (m : Meaning) {T V : Type 0} (l : T → Tallying V) (s : m .State) (t :
     -- No false alarm: over a loyal store every sweep passes, and every read answers what was last written.
     pub no-alarm : m .loyal s → stamp-bits < m .width s →
         all-answers calls ≡ ideal-answers (min 255 (m .height s + 1)) (m .size s) (m .width s - stamp-bits) (replicate (m .size s) 0) calls
+    -- Every sweep that ended took each cell once, from 0 up: it was read, and then written.
+    pub whole-sweeps : (before since : List Event) → history calls ≡ before ++ sweep-ends ∷ since →
+        (earlier : List Event) × (words : List (ℕ × ℕ)) × (length words ≡ cells) × (before ≡ earlier ++ (sweep-begins ∷ taken 0 words))
