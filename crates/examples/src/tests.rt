@@ -162,3 +162,51 @@ fn alters() -> Result<(), Fail> {
     check(store.read(1) == Ok(0))?;
     check(store.read(1) == Ok(7))
 }
+
+fn is_written(answers: &Vec<Answer>, at: usize) -> bool {
+    match answers.get(at) {
+        Some(Answer::Written) => true,
+        _ => false,
+    }
+}
+
+fn is_failed(answers: &Vec<Answer>, at: usize, fault: Fault) -> bool {
+    match answers.get(at) {
+        Some(Answer::Failed(f)) => *f == fault,
+        _ => false,
+    }
+}
+
+// As many writes as the clock can count, and two more: a sweep comes before the last but one. The making is one access and
+// each write two, so an alteration after 2,097,151 accesses falls right before that sweep.
+#[test]
+fn sweeps_at_clock_end(rt: LibcRuntime) -> Result<(), Fail> {
+    let calls = vec![in rt.alloc(); Call::Write { cell: 0, value: 1 }; 1_048_577]?;
+    let mut words = [0u64; 1];
+    let (_, honest) = perform(
+        rt.alloc(),
+        Array::new(&mut words, 21),
+        Sum { key: 3 },
+        calls.as_slice(),
+    );
+    check(is_written(&honest?, 1_048_576))?;
+    let mut words = [0u64; 1];
+    let coming = [Alteration {
+        after: 2_097_151,
+        cell: 0,
+        word: 0,
+    }];
+    let store = Altering::new(Array::new(&mut words, 21), &coming);
+    let (_, altered) = perform(rt.alloc(), store, Sum { key: 3 }, calls.as_slice());
+    let altered = altered?;
+    check(is_written(&altered, 1_048_574))?;
+    check(is_failed(
+        &altered,
+        1_048_575,
+        Fault {
+            cause: Cause::TalliesDiffer,
+            height: 1,
+            place: 0,
+        },
+    ))
+}
