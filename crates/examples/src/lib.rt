@@ -1,4 +1,6 @@
 // Worked examples: a table of them, shown of the definitions, and a pile of two checked memories.
+#![tactic(auto)]
+
 ghost use Rattle.examples.specs.Table.{Table};
 
 use parts::store::Store;

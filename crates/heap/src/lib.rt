@@ -1,4 +1,6 @@
 // The binary heap.
+#![tactic(auto)]
+
 pub mod binary;
 mod calls;
 mod cells;

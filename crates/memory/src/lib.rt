@@ -1,3 +1,5 @@
 // The checked memory.
+#![tactic(auto)]
+
 pub mod checked;
 mod clock;

@@ -1,4 +1,6 @@
 // A list of calls performed on a checked memory just made, over any store.
+#![tactic(auto)]
+
 ghost use Rattle.std.specs.Prelude.{◌≡◌, ◌≤◌, [], length, vec_len, vec_capacity, MatchResult};
 ghost use Rattle.memory_laws.specs.Checked.{plain};
 ghost use Rattle.memory_laws.specs.Runs.{performed, answers, after};

@@ -1,4 +1,6 @@
 // Orders of keys: by the key itself, and by the rank of a fault.
+#![tactic(auto)]
+
 ghost use Rattle.std.specs.Prelude.{◌≡◌};
 ghost use Rattle.orders.specs.Ranks.{earlier, rank_of, minute_of, by_fault};
 ghost use Rattle.orders.specs.Laws.{earlier_laws, lexical_laws};

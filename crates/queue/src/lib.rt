@@ -1,2 +1,4 @@
 // The checked queue.
+#![tactic(auto)]
+
 pub mod checked;

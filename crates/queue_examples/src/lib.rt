@@ -1,5 +1,7 @@
 // Worked examples of the queue side: a table of them, shown of the definitions, a pile of checked queues, and a queue that
 // names one ticket for ever.
+#![tactic(auto)]
+
 ghost use Rattle.queue_examples.specs.QueueTable.{QueueTable};
 
 pub mod queue_pile;

@@ -1,4 +1,6 @@
 // A list of calls performed on a checked queue just made, over any queue.
+#![tactic(auto)]
+
 ghost use Rattle.std.specs.Prelude.{◌≡◌, MatchResult};
 ghost use Rattle.queue_laws.specs.QueueRuns.{answering};
 ghost use Rattle.queue_laws.specs.QueuePromise.{all_answers, left, Promise};

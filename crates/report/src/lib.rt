@@ -1,4 +1,6 @@
 // Values to text: what is printed of the sections of a script.
+#![tactic(auto)]
+
 pub mod card;
 pub mod out;
 pub mod shown;

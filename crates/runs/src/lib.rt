@@ -1,4 +1,6 @@
 // A list of calls performed in turn on a part that answers each.
+#![tactic(auto)]
+
 ghost use Rattle.std.specs.Prelude.{◌≡◌, ◌-◌, ◌++◌, take, vec_len, vec_capacity};
 ghost use Rattle.parts.specs.Runs.{Machine, answers, after};
 

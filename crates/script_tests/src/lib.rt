@@ -1,4 +1,6 @@
 // Scripts read as sections, on examples.
+#![tactic(auto)]
+
 #[cfg(test)]
 mod tests {
     use script::section::{Section, parse};

@@ -1,4 +1,6 @@
 // Stores: two at the bottom of a pile, the array and the replay, and one that somebody with a key alters.
+#![tactic(auto)]
+
 ghost use Rattle.std.specs.Prelude.{◌≡◌};
 ghost use Rattle.parts.specs.Meaning.{fit, fault};
 

@@ -1,4 +1,5 @@
 // The machines that the bottom stores and the altering store are, in specs/, and what they keep, in proofs/.
+#![tactic(auto)]
 
 // An alteration by somebody with a key: after so many accesses of a store, and before the next, the cell holds the word.
 #[derive(Clone, Copy)]

@@ -1,4 +1,6 @@
 // The two tallies, over a mix of the record under a key.
+#![tactic(auto)]
+
 ghost use Rattle.std.specs.Prelude.{◌≡◌};
 ghost use Rattle.memory_laws.specs.Mix.{mix};
 

@@ -1,4 +1,6 @@
 // The program: reads a script, performs its sections and prints what was done.
+#![tactic(auto)]
+
 use report::out::Out;
 use script::section::{Section, parse};
 use std::io::{Read, Write};
