@@ -34,8 +34,8 @@ fn fit_capacity(capacity: u64, below: u64) -> u64
 impl<Q: Queue> CheckedQueue<Q> {
     // A check of so many tickets over the queue, which it leaves as it is.
     pub fn new(below: Q, capacity: u64) -> Self
-        ensures outcome { view Q.Queue.state result ≡ made Q.Queue.meaning Order-as-Order.before capacity (Q.Queue.state below) }
-        ensures loyal { StartsLoyal Q.Queue.meaning Order-as-Order.before capacity (Q.Queue.state below) (view Q.Queue.state result) }
+        ensures outcome { view Q.Queue.state result ≡ made Q.Queue.meaning Q.Order.before capacity (Q.Queue.state below) }
+        ensures loyal { StartsLoyal Q.Queue.meaning Q.Order.before capacity (Q.Queue.state below) (view Q.Queue.state result) }
     {
         let tickets = fit_capacity(capacity, below.capacity());
         CheckedQueue {
@@ -47,7 +47,7 @@ impl<Q: Queue> CheckedQueue<Q> {
 
     // A fault that the check itself finds.
     fn own(&self, cause: Cause, ticket: u64) -> QueueFault
-        ensures { result ≡ found cause (height Q.Queue.meaning Order-as-Order.before (view Q.Queue.state self.now)) ticket }
+        ensures { result ≡ found cause (height Q.Queue.meaning Q.Order.before (view Q.Queue.state self.now)) ticket }
     {
         QueueFault::Found(Fault {
             cause,
@@ -108,7 +108,7 @@ impl<Q: Queue> CheckedQueue<Q> {
     // Puts below; the entry then waits without a bound.
     fn enter(&mut self, ticket: u64, key: u64) -> Result<(), QueueFault>
         requires { put_declined self.old.table.tickets (waiting (rows self.old.table)) ticket key ≡ None }
-        ensures { Does Q.Queue.state self.old self.new result (entering Q.Queue.meaning Order-as-Order.before ticket key) }
+        ensures { Does Q.Queue.state self.old self.new result (entering Q.Queue.meaning Q.Order.before ticket key) }
     {
         self.below.put(ticket, key)?;
         self.table.enter(ticket, key);
@@ -118,7 +118,7 @@ impl<Q: Queue> CheckedQueue<Q> {
     // Removes below, unless the key is before its bound.
     fn take(&mut self, ticket: u64) -> Result<(), QueueFault>
         requires { remove_declined self.old.table.tickets (waiting (rows self.old.table)) ticket ≡ None }
-        ensures { Does Q.Queue.state self.old self.new result (taking Q.Queue.meaning Order-as-Order.before ticket) }
+        ensures { Does Q.Queue.state self.old self.new result (taking Q.Queue.meaning Q.Order.before ticket) }
     {
         if self.table.is_before_bound(self.below.order(), ticket) {
             return Err(self.own(Cause::KeyBeforeBound, ticket));
@@ -130,7 +130,7 @@ impl<Q: Queue> CheckedQueue<Q> {
 
     // Asks below for a ticket, and raises the bounds of those that wait to its key.
     fn name(&mut self) -> Result<Option<u64>, QueueFault>
-        ensures { Does Q.Queue.state self.old self.new result (naming Q.Queue.meaning Order-as-Order.before) }
+        ensures { Does Q.Queue.state self.old self.new result (naming Q.Queue.meaning Q.Order.before) }
     {
         let Some(ticket) = self.below.least()? else {
             return Err(self.own(Cause::NothingNamed, 0));
@@ -144,7 +144,7 @@ impl<Q: Queue> CheckedQueue<Q> {
 
     // The ticket that is named, or none where nothing waits.
     fn first(&mut self) -> Result<Option<u64>, QueueFault>
-        ensures { Does Q.Queue.state self.old self.new result (leasts Q.Queue.meaning Order-as-Order.before) }
+        ensures { Does Q.Queue.state self.old self.new result (leasts Q.Queue.meaning Q.Order.before) }
     {
         self.unbroken()?;
         if self.table.first_waiting().is_none() {
@@ -156,7 +156,7 @@ impl<Q: Queue> CheckedQueue<Q> {
 
     // Clears below and empties the table.
     fn empty(&mut self) -> Result<(), QueueFault>
-        ensures { Does Q.Queue.state self.old self.new result (clearing Q.Queue.meaning Order-as-Order.before) }
+        ensures { Does Q.Queue.state self.old self.new result (clearing Q.Queue.meaning Q.Order.before) }
     {
         self.below.clear()?;
         self.table.clear();
@@ -165,7 +165,7 @@ impl<Q: Queue> CheckedQueue<Q> {
 
     // A waiting key before its bound is a fault: the queue named a later one while it waited.
     fn no_offender(&self) -> Result<(), QueueFault>
-        ensures { result ≡ (auditing Q.Queue.meaning Order-as-Order.before (first_offender Order-as-Order.before (rows self.now.table) self.now.table.tickets) (view Q.Queue.state self.now)).0 }
+        ensures { result ≡ (auditing Q.Queue.meaning Q.Order.before (first_offender Q.Order.before (rows self.now.table) self.now.table.tickets) (view Q.Queue.state self.now)).0 }
     {
         match self.table.first_offender(self.below.order()) {
             Some(ticket) => Err(self.own(Cause::KeyBeforeBound, ticket)),
@@ -175,8 +175,8 @@ impl<Q: Queue> CheckedQueue<Q> {
 
     // Tells whether every naming since the last clear was right, as far as the entries that wait show it.
     pub fn audit(&mut self) -> Result<(), QueueFault>
-        ensures does { Does Q.Queue.state self.old self.new result (audits Q.Queue.meaning Order-as-Order.before) }
-        ensures passes { Loyal Q.Queue.meaning Order-as-Order.before (view Q.Queue.state self.old) → result ≡ Ok tt }
+        ensures does { Does Q.Queue.state self.old self.new result (audits Q.Queue.meaning Q.Order.before) }
+        ensures passes { Loyal Q.Queue.meaning Q.Order.before (view Q.Queue.state self.old) → result ≡ Ok tt }
     {
         self.unbroken()?;
         let result = self.no_offender();

@@ -33,7 +33,7 @@ impl<Q: Queue> Performs for Answering<Q> {
 
     type Answer = Answer;
 
-    ghost machine = { answering Q.Queue.meaning Order-as-Order.before };
+    ghost machine = { answering Q.Queue.meaning Q.Order.before };
 
     ghost state = { λ s. view Q.Queue.state s.queue };
 
@@ -73,10 +73,10 @@ pub fn perform<Q: Queue>(
     calls: &[Call],
 ) -> (Q, Result<Vec<Answer>, AllocError>)
     ensures gives { MatchResult result.1
-        (λ v. (v.items ≡ all_answers Q.Queue.meaning Order-as-Order.before capacity (Q.Queue.state queue) calls.now)
-        × (Q.Queue.state result.0 ≡ (left Q.Queue.meaning Order-as-Order.before capacity (Q.Queue.state queue) calls.now).below))
+        (λ v. (v.items ≡ all_answers Q.Queue.meaning Q.Order.before capacity (Q.Queue.state queue) calls.now)
+        × (Q.Queue.state result.0 ≡ (left Q.Queue.meaning Q.Order.before capacity (Q.Queue.state queue) calls.now).below))
         (λ _. result.0 ≡ queue) }
-    ensures keeps { Promise Q.Queue.meaning Order-as-Order.before capacity (Q.Queue.state queue) calls.now }
+    ensures keeps { Promise Q.Queue.meaning Q.Order.before capacity (Q.Queue.state queue) calls.now }
 {
     let mut all = match Vec::with_capacity(heap, calls.len()) {
         Ok(all) => all,

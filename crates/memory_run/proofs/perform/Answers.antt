@@ -13,8 +13,8 @@ returns g c =
     record {
       keeps = promised m g.S.Store.keeps l g.T.Tally.laws s c.args.tally cs;
       gives = (
-        c.perform-all.ensures.answer ∙ ap (answers (plain m) l cs) new ∙ watched_answers m l s c.args.tally cs,
-        c.into-store.ensures ∙ ap (λ x. x.store) (c.perform-all.ensures.leaves ∙ ap (after (plain m) l cs) new) ∙ watched_left m l s c.args.tally cs,
+        c.perform_all.ensures.answer ∙ ap (answers (plain m) l cs) new ∙ watched_answers m l s c.args.tally cs,
+        c.into_store.ensures ∙ ap (λ x. x.store) (c.perform_all.ensures.leaves ∙ ap (after (plain m) l cs) new) ∙ watched_left m l s c.args.tally cs,
       );
     }
 

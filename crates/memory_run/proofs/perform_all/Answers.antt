@@ -8,11 +8,11 @@ loop-i-init g c = (c.requires.1.0, refl, begun (plain g.S.Store.meaning) g.T.Tal
 
 pub loop-i-preserved : goal.loop-i-preserved
 loop-i-preserved g c =
-    let e = c.push-reserved.ensures in (
+    let e = c.push_reserved.ensures in (
       omega (arith, e.len, c.loop-i.invariant.0),
       e.capacity ∙ c.loop-i.invariant.1,
       one_more (plain g.S.Store.meaning) g.T.Tally.tallying c.args.calls.now _ _ c.loop-i.i _ _ _ _ _ c.loop-i-test.true c.loop-i.invariant.2
-          c.answer-to.ensures.answer c.answer-to.ensures.leaves e.items,
+          c.answer_to.ensures.answer c.answer_to.ensures.leaves e.items,
     )
 
 pub returns : goal.returns

@@ -11,12 +11,12 @@ returns g c =
     let q = g.Q.Queue.meaning in let b = g.Order.Order.before in
     let cs = c.args.calls.now in
     let new = c.new.ensures.outcome in
-    let all = c.in-Ok.ensures in let done = c.perform-all.ensures in
+    let all = c.in-Ok.ensures in let done = c.perform_all.ensures in
     record {
       keeps = promised q b g.met.Q.Queue.keeps g.met.Order.Order.laws c.args.capacity (g.Q.Queue.state c.args.queue) cs;
       gives = (
         all_answered (performed q b) cs _ _ _ all.len all.capacity _ _ all.items done.answer ∙ ap (answers (performed q b) cs) new,
-        c.into-queue.ensures ∙ ap (λ (s : Chk q b). s.below) (all_left (performed q b) cs _ _ _ all.len all.capacity _ done.leaves ∙ ap (after (performed q b) cs) new),
+        c.into_queue.ensures ∙ ap (λ (s : Chk q b). s.below) (all_left (performed q b) cs _ _ _ all.len all.capacity _ done.leaves ∙ ap (after (performed q b) cs) new),
       );
     }
 

@@ -8,7 +8,7 @@ loop-i-init g c = (sym (add-zero _), refl, begun g.P.Performs.machine.step _ _ _
 
 pub loop-i-preserved : goal.loop-i-preserved
 loop-i-preserved g c =
-    let e = c.push-reserved.ensures in let call = c.index-calls-i in let i = c.loop-i.i in
+    let e = c.push_reserved.ensures in let call = c.index-calls-i in let i = c.loop-i.i in
     let all = c.args.all.now in let calls = c.args.calls.now in
     let long : i < length (take (vec_capacity all - vec_len all) calls) = omega (arith, length-take (vec_capacity all - vec_len all) calls) in
     let few : i < vec_capacity all - vec_len all = omega arith in (

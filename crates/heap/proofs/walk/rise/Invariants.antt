@@ -9,7 +9,7 @@ abbrev pub invariant-loop-hole : goal.invariant-loop-hole
 invariant-loop-hole g l =
     let m = g.S.Store.meaning in
     let f = g.S.Store.state in
-    let before = g.row.O-Order.before in
+    let before = g.O.Order.before in
     let above = parent l.hole in
     (l.hole ≤ l.from) ×
     (cond (eqb l.hole 0) (Ok l.hole, f l.store) (and_then (key_at m above (f l.store)) (risen m before l.capacity l.key l.hole (rising m before above l.capacity l.key above)))

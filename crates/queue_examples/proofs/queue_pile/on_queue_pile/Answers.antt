@@ -12,7 +12,7 @@ returns g c h wide low high =
     let up : ℕ → ℕ = λ n. min 255 (n + 1) in
     let top = up (up (up (up (g.S.Store.meaning.height (g.S.Store.state c.args.bottom))))) in
     made_where c.perform-lower.result.1 _ _ _ c.perform-lower.ensures.gives
-    (λ v p. subst (λ (rs : List Answer). CanGive g.row.O-Order.before top c.args.capacity nothing_waits c.args.calls.now rs) (sym p.0)
-    (ideal_on_queues g.S.Store.meaning g.S.Store.keeps (λ t. sum_tally t.key) (λ t. sum_laws t.key) g.row.O-Order.before g.met.O.Order.laws
+    (λ v p. subst (λ (rs : List Answer). CanGive g.O.Order.before top c.args.capacity nothing_waits c.args.calls.now rs) (sym p.0)
+    (ideal_on_queues g.S.Store.meaning g.S.Store.keeps (λ t. sum_tally t.key) (λ t. sum_laws t.key) g.O.Order.before g.met.O.Order.laws
     _ _ _ _ c.args.capacity c.args.calls.now c.new-cells.ensures.loyal c.new.ensures.loyal c.new-lower.ensures.outcome c.new-lower.ensures.loyal
     c.perform-lower.ensures.keeps h wide low high))

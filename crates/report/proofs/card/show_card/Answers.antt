@@ -6,6 +6,6 @@ pub returns : goal.returns
 returns c =
     let r = c.decimal-2.result in
     let o = c.decimal-2.new.self in
-    then_adds r o c.args.out.now c.text.new.self (codes "card ") _ c.in-ok-text.ensures
-    (then_adds r o c.text.new.self c.decimal.new.self (decimal c.args.size) _ c.in-ok-decimal.ensures
-    (then_adds r o c.decimal.new.self c.text-2.new.self (codes " ") _ c.in-ok-text-2.ensures c.decimal-2.ensures))
+    then_adds r o c.args.out.now c.text.new.self (codes "card ") _ c.in_ok-text.ensures
+    (then_adds r o c.text.new.self c.decimal.new.self (decimal c.args.size) _ c.in_ok-decimal.ensures
+    (then_adds r o c.decimal.new.self c.text-2.new.self (codes " ") _ c.in_ok-text-2.ensures c.decimal-2.ensures))

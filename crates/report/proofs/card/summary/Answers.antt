@@ -7,6 +7,6 @@ pub returns : goal.returns
 returns c =
     let r = c.text-2.result in
     let o = c.text-2.new.self in
-    then_adds r o c.args.out.now c.show-card.new.out (shown_card c.args.size c.args.width) _ c.in-ok-show-card.ensures
-    (then_adds r o c.show-card.new.out c.text.new.self (codes ": ") _ c.in-ok-text.ensures
-    (then_adds r o c.text.new.self c.show-done.new.out (shown_done c.args.answers.now) _ c.in-ok-show-done.ensures c.text-2.ensures))
+    then_adds r o c.args.out.now c.show_card.new.out (shown_card c.args.size c.args.width) _ c.in_ok-show_card.ensures
+    (then_adds r o c.show_card.new.out c.text.new.self (codes ": ") _ c.in_ok-text.ensures
+    (then_adds r o c.text.new.self c.show_done.new.out (shown_done c.args.answers.now) _ c.in_ok-show_done.ensures c.text-2.ensures))

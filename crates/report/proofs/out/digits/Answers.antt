@@ -8,16 +8,16 @@ loop-rest-init c =
     let none : drop 20 c.args.buffer.now ≡ [] = drop_of_length-le c.args.buffer.now full in
     (sym (ap (λ l. decimal c.args.n ++ l) none ∙ append-nil (decimal c.args.n)), omega arith, c.told-buffer, omega arith)
 
-pub overflow-sub-at : goal.overflow-sub-at
-overflow-sub-at c = has_room c.args.n c.loop-rest.rest c.loop-rest.at c.loop-rest.buffer (omega arith) c.loop-rest.invariant.3 c.loop-rest.invariant.2 c.loop-rest.invariant.1 c.loop-rest.invariant.0
+pub overflow_sub-at : goal.overflow_sub-at
+overflow_sub-at c = has_room c.args.n c.loop-rest.rest c.loop-rest.at c.loop-rest.buffer (omega arith) c.loop-rest.invariant.3 c.loop-rest.invariant.2 c.loop-rest.invariant.1 c.loop-rest.invariant.0
 
 pub loop-rest-preserved : goal.loop-rest-preserved
 loop-rest-preserved c =
     let some = has_room c.args.n c.loop-rest.rest c.loop-rest.at c.loop-rest.buffer (omega arith) c.loop-rest.invariant.3 c.loop-rest.invariant.2 c.loop-rest.invariant.1 c.loop-rest.invariant.0 in
     (one_digit c.args.n c.loop-rest.rest c.loop-rest.at c.loop-rest.buffer c.loop-rest-test.true c.loop-rest.invariant.3 some (omega arith) c.loop-rest.invariant.0, omega arith, simp length-set c.loop-rest.invariant.2, omega (arith, div-le_self c.loop-rest.rest 10))
 
-pub overflow-sub-at-2 : goal.overflow-sub-at-2
-overflow-sub-at-2 c = has_room c.args.n c.loop-rest.rest c.loop-rest.at c.loop-rest.buffer (omega arith) c.loop-rest.invariant.3 c.loop-rest.invariant.2 c.loop-rest.invariant.1 c.loop-rest.invariant.0
+pub overflow_sub-at-2 : goal.overflow_sub-at-2
+overflow_sub-at-2 c = has_room c.args.n c.loop-rest.rest c.loop-rest.at c.loop-rest.buffer (omega arith) c.loop-rest.invariant.3 c.loop-rest.invariant.2 c.loop-rest.invariant.1 c.loop-rest.invariant.0
 
 pub returns : goal.returns
 returns c =

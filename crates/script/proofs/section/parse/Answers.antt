@@ -12,7 +12,7 @@ no_lines (b ∷ bs) e = absurd (omega arith)
 pub loop-rest-preserved : goal.loop-rest-preserved
 loop-rest-preserved c =
     let some : 0 < length c.loop-rest.rest.now = grind (arith, nat_tests, c.loop-rest-test.ensures) in
-    (λ final h. c.loop-rest.invariant.0 final (subst (λ ls. ScriptTook c.loop-rest.line ls (vec_items c.loop-rest.sections) final) (sym (c.split-line.ensures.first some)) (c.trim.result, vec_items c.take-line.new.sections, c.trim.ensures, c.in-ok-take-line.ensures, h)), omega (arith, c.split-line.ensures.less some))
+    (λ final h. c.loop-rest.invariant.0 final (subst (λ ls. ScriptTook c.loop-rest.line ls (vec_items c.loop-rest.sections) final) (sym (c.split_line.ensures.first some)) (c.trim.result, vec_items c.take_line.new.sections, c.trim.ensures, c.in_ok-take_line.ensures, h)), omega (arith, c.split_line.ensures.less some))
 
 pub returns : goal.returns
 returns c =

@@ -5,5 +5,5 @@ use Rattle.script.specs.Sections.{Goes}
 use Rattle.script.proofs.Goings.{line_goes}
 use Rattle.script.proofs.section.take_line.Goals as goal
 
-pub returns-in-ok-go-on : goal.returns-in-ok-go-on
-returns-in-ok-go-on c = line_goes c.args.line (words c.args.text.now) c.in-Some.name.now (left c.next.new.self) c.args.text (vec_items c.args.sections.now) (vec_items c.go-on.new.sections) (sym c.new-words.ensures ∙ c.in-Some.ensures) (sym c.if-is-comment.ensures) c.in-None.ensures.0 (subst (λ ws. Goes c.args.line c.in-Some.name.now ws c.args.text (vec_items c.args.sections.now) (vec_items c.go-on.new.sections)) c.in-None.ensures.1 c.in-ok-go-on.ensures)
+pub returns-in_ok-go_on-in-None : goal.returns-in_ok-go_on-in-None
+returns-in_ok-go_on-in-None c = line_goes c.args.line (words c.args.text.now) c.in-Some.name.now (left c.next.new.self) c.args.text (vec_items c.args.sections.now) (vec_items c.go_on.new.sections) (sym c.new-words.ensures ∙ c.in-Some.ensures) (sym c.if-is_comment.ensures) c.in-None.ensures.0 (subst (λ ws. Goes c.args.line c.in-Some.name.now ws c.args.text (vec_items c.args.sections.now) (vec_items c.go_on.new.sections)) c.in-None.ensures.1 c.in_ok-go_on-in-None.ensures)

@@ -20,13 +20,13 @@ first_is text line rest n e p q some =
     let b : rest ≡ drop (prefix_len inner text + 1) text = q ∙ ap (λ k. drop (k + 1) text) e in
     first_line text some ∙ (λ k. sym a k ∷ lines (sym b k))
 
-pub returns-then-is-empty : goal.returns-then-is-empty
-returns-then-is-empty c =
-    let z : length c.split-at.result.1.now ≡ 0 = grind (arith, nat_tests, c.if-is-empty.ensures) in
-    let rest : c.split-at.result.1.now ≡ drop (c.line-len.result + 1) c.args.text.now = at_end c.args.text.now c.split-at.result.1.now c.line-len.result c.split-at.ensures.back z in
-    record { first = λ h. first_is c.args.text.now c.split-at.result.0.now c.split-at.result.1.now c.line-len.result c.line-len.ensures.value c.split-at.ensures.front rest h; less = λ h. omega arith }
+pub returns-then-is_empty : goal.returns-then-is_empty
+returns-then-is_empty c =
+    let z : length c.split_at.result.1.now ≡ 0 = grind (arith, nat_tests, c.if-is_empty.ensures) in
+    let rest : c.split_at.result.1.now ≡ drop (c.line_len.result + 1) c.args.text.now = at_end c.args.text.now c.split_at.result.1.now c.line_len.result c.split_at.ensures.back z in
+    record { first = λ h. first_is c.args.text.now c.split_at.result.0.now c.split_at.result.1.now c.line_len.result c.line_len.ensures.value c.split_at.ensures.front rest h; less = λ h. omega arith }
 
-pub returns-else-is-empty : goal.returns-else-is-empty
-returns-else-is-empty c =
-    let rest : c.split-at-else-is-empty.result.1.now ≡ drop (c.line-len.result + 1) c.args.text.now = c.split-at-else-is-empty.ensures.back ∙ (ap (drop 1) c.split-at.ensures.back ∙ drop-drop 1 c.line-len.result c.args.text.now) in
-    record { first = λ h. first_is c.args.text.now c.split-at.result.0.now c.split-at-else-is-empty.result.1.now c.line-len.result c.line-len.ensures.value c.split-at.ensures.front rest h; less = λ h. omega (arith, c.split-at-else-is-empty.ensures.back_len, c.split-at.ensures.back_len) }
+pub returns-else-is_empty : goal.returns-else-is_empty
+returns-else-is_empty c =
+    let rest : c.split_at-else-is_empty.result.1.now ≡ drop (c.line_len.result + 1) c.args.text.now = c.split_at-else-is_empty.ensures.back ∙ (ap (drop 1) c.split_at.ensures.back ∙ drop-drop 1 c.line_len.result c.args.text.now) in
+    record { first = λ h. first_is c.args.text.now c.split_at.result.0.now c.split_at-else-is_empty.result.1.now c.line_len.result c.line_len.ensures.value c.split_at.ensures.front rest h; less = λ h. omega (arith, c.split_at-else-is_empty.ensures.back_len, c.split_at.ensures.back_len) }

@@ -9,4 +9,4 @@ tested xs ys r h = search (rules, bytes_eq-Decides)
 
 pub returns : goal.returns
 returns c =
-    tested c.args.word.now c.as-bytes.result.now c.eq.result (slice_eq-Decides Decides-eqb c.args.word.now c.as-bytes.result.now c.eq.result c.eq.ensures) ∙ ap (bytes_eq c.args.word.now) c.as-bytes.ensures.value
+    tested c.args.word.now c.as_bytes.result.now c.eq.result (slice_eq-Decides Decides-eqb c.args.word.now c.as_bytes.result.now c.eq.result c.eq.ensures) ∙ ap (bytes_eq c.args.word.now) c.as_bytes.ensures.value

@@ -4,7 +4,7 @@ use Rattle.std.proofs.lemmas.List.Sums.{suffix_len-take_yes, suffix_len-take_no}
 use Rattle.std.specs.List.{suffix_len}
 use Rattle.words.specs.Words.{white}
 use Rattle.words.proofs.words.trim_end.Goals as goal
-use Rattle.words.proofs.words.trim_end.Goals.{then-loop-n-test+else-is-white, else-loop-n-test}
+use Rattle.words.proofs.words.trim_end.Goals.{then-loop-n-test+else-is_white, else-loop-n-test}
 
 pub loop-n-init : goal.loop-n-init
 loop-n-init c =
@@ -13,7 +13,7 @@ loop-n-init c =
 
 pub loop-n-preserved : goal.loop-n-preserved
 loop-n-preserved c =
-    let e = suffix_len-take_yes white c.args.line.now c.loop-n.n 0 c.loop-n-test.true c.loop-n.invariant.0 (sym c.if-is-white.ensures) in
+    let e = suffix_len-take_yes white c.args.line.now c.loop-n.n 0 c.loop-n-test.true c.loop-n.invariant.0 (sym c.if-is_white.ensures) in
     (omega arith, omega (arith, e))
 
 stops : (line : List ℕ) (n : ℕ) → n ≡ length line - suffix_len white line → take (n - 0) line ≡ take (length line - suffix_len white line) line
@@ -21,4 +21,4 @@ stops line n e = let z : n - 0 ≡ length line - suffix_len white line = omega a
 
 pub returns : goal.returns
 returns c =
-    stops c.args.line.now c.loop-n.n (elim c.loop-n-test.branch [ then-loop-n-test+else-is-white w ↦ omega (arith, suffix_len-take_no white c.args.line.now c.loop-n.n 0 w.loop-n-test.true c.loop-n.invariant.0 (sym w.if-is-white.ensures)) | else-loop-n-test w ↦ let z : c.loop-n.n ≡ 0 = omega arith in omega (arith, ap (λ k. suffix_len white (take k c.args.line.now)) z) ])
+    stops c.args.line.now c.loop-n.n (elim c.loop-n-test.branch [ then-loop-n-test+else-is_white w ↦ omega (arith, suffix_len-take_no white c.args.line.now c.loop-n.n 0 w.loop-n-test.true c.loop-n.invariant.0 (sym w.if-is_white.ensures)) | else-loop-n-test w ↦ let z : c.loop-n.n ≡ 0 = omega arith in omega (arith, ap (λ k. suffix_len white (take k c.args.line.now)) z) ])

@@ -5,12 +5,12 @@ use Rattle.words.proofs.words.word_len.Goals as goal
 
 pub loop-n-preserved : goal.loop-n-preserved
 loop-n-preserved c =
-    let e = prefix_len-drop_yes dark c.args.line.now c.loop-n.n 0 c.loop-n-test.true (sym (ap not c.if-not-is-white.ensures)) in
+    let e = prefix_len-drop_yes dark c.args.line.now c.loop-n.n 0 c.loop-n-test.true (sym (ap not c.if-not-is_white.ensures)) in
     (omega arith, omega (arith, e))
 
-pub returns-else-not-is-white : goal.returns-else-not-is-white
-returns-else-not-is-white c =
-    let e = prefix_len-drop_no dark c.args.line.now c.loop-n.n 0 c.loop-n-test.true (sym (ap not c.if-not-is-white.ensures)) in
+pub returns-else-not-is_white : goal.returns-else-not-is_white
+returns-else-not-is_white c =
+    let e = prefix_len-drop_no dark c.args.line.now c.loop-n.n 0 c.loop-n-test.true (sym (ap not c.if-not-is_white.ensures)) in
     record { within = omega arith; value = omega (arith, e) }
 
 pub returns-after-loop-n : goal.returns-after-loop-n

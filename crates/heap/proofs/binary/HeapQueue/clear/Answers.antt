@@ -9,11 +9,11 @@ loop-ticket-init g c = search (rules, up_to_none)
 
 pub loop-ticket-preserved : goal.loop-ticket-preserved
 loop-ticket-preserved g c =
-    (c.loop-ticket.invariant.0, up_to_more (wiped_at g.S.Store.meaning g.row.O-Order.before) _ _ c.loop-ticket.ticket _ _ _ _ c.loop-ticket.invariant.1 (search rules) (search rules))
+    (c.loop-ticket.invariant.0, up_to_more (wiped_at g.S.Store.meaning g.O.Order.before) _ _ c.loop-ticket.ticket _ _ _ _ c.loop-ticket.invariant.1 (search rules) (search rules))
 
-pub returns-in-err-write : goal.returns-in-err-write
-returns-in-err-write g c =
-    let step = wiped_at g.S.Store.meaning g.row.O-Order.before in
+pub returns-in_err-write : goal.returns-in_err-write
+returns-in_err-write g c =
+    let step = wiped_at g.S.Store.meaning g.O.Order.before in
     let left = g.S.Store.state c.write.new.self in
-    let all = up_to_fault step _ _ c.loop-ticket.ticket _ _ _ (Store c.in-err-write.field-0.0) left c.loop-ticket-test.true c.loop-ticket.invariant.1 (search rules) (search rules) in
+    let all = up_to_fault step _ _ c.loop-ticket.ticket _ _ _ (Store c.in_err-write.field-0.0) left c.loop-ticket-test.true c.loop-ticket.invariant.1 (search rules) (search rules) in
     search rules

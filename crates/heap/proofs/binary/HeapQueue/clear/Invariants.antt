@@ -6,4 +6,4 @@ abbrev pub invariant-loop-ticket : goal.invariant-loop-ticket
 invariant-loop-ticket g l =
     let f = g.S.Store.state in
     (l.self.count ≡ 0) ×
-    (wiping g.S.Store.meaning g.row.O-Order.before l.ticket (f l.initial.self.store) ≡ (Ok tt, f l.self.store))
+    (wiping g.S.Store.meaning g.O.Order.before l.ticket (f l.initial.self.store) ≡ (Ok tt, f l.self.store))

@@ -6,7 +6,7 @@ use Rattle.heap.proofs.binary.HeapQueue.least.Goals as goal
 
 pub returns : goal.returns
 returns g c =
-    let m = g.S.Store.meaning in let b = g.row.O-Order.before in
+    let m = g.S.Store.meaning in let b = g.O.Order.before in
     let s = view g.S.Store.state c.args.self.now in
     let e = c.first.ensures in
     record { answer = e.answer; leaves = e.leaves; names = names_so b (heap m b) (heap_keeps m g.S.Store.keeps b g.met.O.Order.laws) s c.first.result e.answer }

@@ -2,6 +2,6 @@ use Rattle.std.proofs.Common.{arith}
 use Rattle.memory_laws.proofs.Numbers.{word_low}
 use Rattle.memory.proofs.checked.CheckedMemory.fetch.Goals as goal
 
-pub record-of-requires : goal.record-of-requires
-record-of-requires g c =
-    (c.requires, word_low c.args.self.now.clock.width c.in-ok-word.word c.args.self.now.clock.ok.2 (omega (arith, c.power.ensures, c.if-word-power.false)))
+pub record_of-requires : goal.record_of-requires
+record_of-requires g c =
+    (c.requires, word_low c.args.self.now.clock.width c.in_ok-word.word c.args.self.now.clock.ok.2 (omega (arith, c.power.ensures, c.if-word-power.false)))

@@ -11,11 +11,11 @@ starts : (m : Meaning) (k : Keeps m) {T V : Type 0} (l : T → Tallying V) (laws
 starts m k l laws s t e =
     record { outcome = e; loyal = subst (λ (x : Mem (plain m) l). StartsLoyal m l s x) (sym e) (λ h w. (made_is m k l laws s t h w).holds) }
 
-pub returns-then-not-is-checkable : goal.returns-then-not-is-checkable
-returns-then-not-is-checkable g c = starts g.S.Store.meaning g.S.Store.keeps g.T.Tally.tallying g.T.Tally.laws _ c.args.tally (search rules)
+pub returns-then-not-is_checkable : goal.returns-then-not-is_checkable
+returns-then-not-is_checkable g c = starts g.S.Store.meaning g.S.Store.keeps g.T.Tally.tallying g.T.Tally.laws _ c.args.tally (search rules)
 
 pub returns-in-Err : goal.returns-in-Err
 returns-in-Err g c = starts g.S.Store.meaning g.S.Store.keeps g.T.Tally.tallying g.T.Tally.laws _ c.args.tally (search rules)
 
-pub returns-in-default : goal.returns-in-default
-returns-in-default g c = starts g.S.Store.meaning g.S.Store.keeps g.T.Tally.tallying g.T.Tally.laws _ c.args.tally (search rules)
+pub returns-in_default : goal.returns-in_default
+returns-in_default g c = starts g.S.Store.meaning g.S.Store.keeps g.T.Tally.tallying g.T.Tally.laws _ c.args.tally (search rules)

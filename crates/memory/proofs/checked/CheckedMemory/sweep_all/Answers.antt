@@ -10,15 +10,15 @@ loop-cell-init g c = (refl, rw c.start-fresh.ensures (up_to_none _ _ _))
 
 pub loop-cell-preserved : goal.loop-cell-preserved
 loop-cell-preserved g c =
-    let told = c.in-ok-fresh.ensures in (
+    let told = c.in_ok-fresh.ensures in (
       told.clock ∙ c.loop-cell.invariant.0,
       up_to_more (renewed (plain g.S.Store.meaning) g.T.Tally.tallying) _ _ c.loop-cell.cell _ _ _ _ c.loop-cell.invariant.1 told.does.answer told.does.leaves,
     )
 
-pub returns-in-err-fresh : goal.returns-in-err-fresh
-returns-in-err-fresh g c =
-    let p = err_from_is_err_and c.from-residual.result c.from-residual.ensures.1 in
-    let told = c.in-err-fresh.ensures in
+pub returns-in_err-fresh : goal.returns-in_err-fresh
+returns-in_err-fresh g c =
+    let p = err_from_is_err_and c.from_residual.result c.from_residual.ensures.1 in
+    let told = c.in_err-fresh.ensures in
     let all = up_to_fault (renewed (plain g.S.Store.meaning) g.T.Tally.tallying) _ _ c.loop-cell.cell c.args.self.now.clock.size _ _ _ _ (omega (arith, c.cells-cell-end.ensures, c.loop-cell-test.true)) c.loop-cell.invariant.1 told.does.answer told.does.leaves in
     rw (p.1, p.2) (record {
       does = record {

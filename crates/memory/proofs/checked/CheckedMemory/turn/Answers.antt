@@ -9,16 +9,16 @@ chosen_below (Some v) old n h lt = h
 
 pub stamped-word-requires : goal.stamped-word-requires
 stamped-word-requires g c =
-    let told = c.in-ok-old.ensures in (
-      rw told.clock c.requires.1,
-      rw (told.clock, c.unwrap-or-value.ensures) (chosen_below c.args.new c.in-ok-old.old _ c.requires.2 told.small),
+    let told = c.in_ok-old.ensures in (
+      rw told.clock c.requires.time_bound,
+      rw (told.clock, c.unwrap_or-value.ensures) (chosen_below c.args.new c.in_ok-old.old _ c.requires.some told.small),
     )
 
 pub put-requires : goal.put-requires
 put-requires g c =
-    let told = c.in-ok-old.ensures in
+    let told = c.in_ok-old.ensures in
     let k = c.fetch.new.self.clock in
-    let early : k.time < 1048575 = rw told.clock c.requires.1 in
-    let small : c.unwrap-or-value.result < 2 ^ k.width =
-    rw (told.clock, c.unwrap-or-value.ensures) (chosen_below c.args.new c.in-ok-old.old _ c.requires.2 told.small) in
-    (c.requires.0, rw c.stamped-word.ensures.word (word_fits k.width (k.time + 1) _ (omega arith) small k.ok.2))
+    let early : k.time < 1048575 = rw told.clock c.requires.time_bound in
+    let small : c.unwrap_or-value.result < 2 ^ k.width =
+    rw (told.clock, c.unwrap_or-value.ensures) (chosen_below c.args.new c.in_ok-old.old _ c.requires.some told.small) in
+    (c.requires.cell_bound, rw c.stamped-word.ensures.word (word_fits k.width (k.time + 1) _ (omega arith) small k.ok.2))

@@ -7,5 +7,5 @@ pub returns : goal.returns
 returns c =
     let r = c.decimal.result in
     let o = c.decimal.new.self in
-    then_adds r o c.args.self.now c.cause.new.self (shown_cause c.args.fault.cause) _ c.in-ok-cause.ensures
-    (then_adds r o c.cause.new.self c.text.new.self (codes " at ") _ c.in-ok-text.ensures c.decimal.ensures)
+    then_adds r o c.args.self.now c.cause.new.self (shown_cause c.args.fault.cause) _ c.in_ok-cause.ensures
+    (then_adds r o c.cause.new.self c.text.new.self (codes " at ") _ c.in_ok-text.ensures c.decimal.ensures)

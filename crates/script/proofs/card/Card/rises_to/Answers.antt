@@ -9,4 +9,4 @@ none_later (x ∷ xs) after h = absurd (omega arith)
 
 pub returns-in-None : goal.returns-in-None
 returns-in-None c =
-    none_later (vec_items c.args.self.now.alterations) c.args.after (omega (arith, c.in-None.ensures.item.3, c.as-slice.ensures.len))
+    none_later (vec_items c.args.self.now.alterations) c.args.after (omega (arith, c.in-None.ensures.item.3, c.as_slice.ensures.len))

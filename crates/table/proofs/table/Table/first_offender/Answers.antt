@@ -7,15 +7,15 @@ use Rattle.table.proofs.table.Table.first_offender.Goals as goal
 pub loop-t-init : goal.loop-t-init
 loop-t-init g c = first_none _
 
-pub returns-then-is-before-bound : goal.returns-then-is-before-bound
-returns-then-is-before-bound g c =
+pub returns-then-is_before_bound : goal.returns-then-is_before_bound
+returns-then-is_before_bound g c =
     let T = c.args.self.now in
-    sym (first_here (λ t. offends g.O.Order.before (rows T t)) c.loop-t.t T.tickets (omega arith) c.loop-t.invariant (sym c.if-is-before-bound.ensures))
+    sym (first_here (λ t. offends g.O.Order.before (rows T t)) c.loop-t.t T.tickets (omega arith) c.loop-t.invariant (sym c.if-is_before_bound.ensures))
 
 pub loop-t-preserved : goal.loop-t-preserved
 loop-t-preserved g c =
     let T = c.args.self.now in
-    first_on (λ t. offends g.O.Order.before (rows T t)) c.loop-t.t c.loop-t.invariant (sym c.if-is-before-bound.ensures)
+    first_on (λ t. offends g.O.Order.before (rows T t)) c.loop-t.t c.loop-t.invariant (sym c.if-is_before_bound.ensures)
 
 pub returns : goal.returns
 returns g c =

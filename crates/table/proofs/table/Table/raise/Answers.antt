@@ -10,7 +10,7 @@ loop-t-init g c = (refl, raised_none g.O.Order.before c.args.key _)
 pub loop-t-preserved : goal.loop-t-preserved
 loop-t-preserved g c =
     let b = g.O.Order.before in let k = c.args.key in let t = c.loop-t.t in
-    let i = c.loop-t.invariant in let e = c.raise-one.ensures in
+    let i = c.loop-t.invariant in let e = c.raise_one.ensures in
     (e.tickets ∙ i.0, e.rows ∙ ap (λ (R : ℕ → Option Row). with_row R t (raised_row b k (R t))) i.1 ∙ raised_more b k (rows c.args.self.now) t)
 
 pub returns : goal.returns
