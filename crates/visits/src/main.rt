@@ -4,6 +4,7 @@
 use report::out::Out;
 use script::section::{Section, parse};
 use std::io::{Read, Write};
+use std::process::ExitCode;
 use std::{env, fs, io};
 use words::reason::BadLine;
 
@@ -100,16 +101,13 @@ fn run(rt: &HostRuntime) -> io::Result<bool> {
     }
 }
 
-#[derive(Drop)]
-struct Failed;
-
-fn main(rt: HostRuntime) -> Result<(), Failed> {
+fn main(rt: HostRuntime) -> ExitCode {
     match run(&rt) {
-        Ok(true) => Ok(()),
-        Ok(false) => Err(Failed),
+        Ok(true) => ExitCode::SUCCESS,
+        Ok(false) => ExitCode::FAILURE,
         Err(error) => {
             let _ = eprintln!(rt; "visits: {error}");
-            Err(Failed)
+            ExitCode::FAILURE
         }
     }
 }

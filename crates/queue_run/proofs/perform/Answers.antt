@@ -8,12 +8,12 @@ use Rattle.queue_run.proofs.perform.Goals as goal
 
 pub returns : goal.returns
 returns g c =
-    let q = g.Q.Queue.meaning in let b = g.Order.Order.before in
+    let q = g.Q.Queue.meaning in let b = g.Q.Order.Order.before in
     let cs = c.args.calls.now in
     let new = c.new.ensures.outcome in
     let all = c.in-Ok.ensures in let done = c.perform_all.ensures in
     record {
-      keeps = promised q b g.met.Q.Queue.keeps g.met.Order.Order.laws c.args.capacity (g.Q.Queue.state c.args.queue) cs;
+      keeps = promised q b g.met.Q.Queue.keeps g.met.Q.Order.Order.laws c.args.capacity (g.Q.Queue.state c.args.queue) cs;
       gives = (
         all_answered (performed q b) cs _ _ _ all.len all.capacity _ _ all.items done.answer ∙ ap (answers (performed q b) cs) new,
         c.into_queue.ensures ∙ ap (λ (s : Chk q b). s.below) (all_left (performed q b) cs _ _ _ all.len all.capacity _ done.leaves ∙ ap (after (performed q b) cs) new),
@@ -24,5 +24,5 @@ pub returns-in-Err : goal.returns-in-Err
 returns-in-Err g c =
     record {
       gives = refl;
-      keeps = promised g.Q.Queue.meaning g.Order.Order.before g.met.Q.Queue.keeps g.met.Order.Order.laws c.args.capacity (g.Q.Queue.state c.args.queue) c.args.calls.now;
+      keeps = promised g.Q.Queue.meaning g.Q.Order.Order.before g.met.Q.Queue.keeps g.met.Q.Order.Order.laws c.args.capacity (g.Q.Queue.state c.args.queue) c.args.calls.now;
     }

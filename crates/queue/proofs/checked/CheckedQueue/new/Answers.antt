@@ -6,7 +6,7 @@ use Rattle.queue.proofs.checked.CheckedQueue.new.Goals as goal
 
 pub returns : goal.returns
 returns g c =
-    let q = g.Q.Queue.meaning in let b = g.Q.Order.before in let x = g.Q.Queue.state c.args.below in
+    let q = g.Q.Queue.meaning in let b = g.Q.Order.Order.before in let x = g.Q.Queue.state c.args.below in
     let fit = c.fit_capacity-tickets in
     let few : min fit.result most_tickets ≡ fit.result = omega (arith, fit.ensures.few) in
     let m : c.new.result.tickets ≡ fitting c.args.capacity (q.capacity x) = c.new.ensures.tickets ∙ (few ∙ (fit.ensures.value ∙ ap (fitting c.args.capacity) c.capacity.ensures)) in
