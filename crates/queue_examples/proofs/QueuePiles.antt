@@ -31,7 +31,7 @@ module _ (m : Meaning) (keeps : Keeps m) {T V : Type 0} (l : T → Tallying V) (
   cells = checked m l
 
   abbrev tree : QueueMeaning
-  tree = heaps.alloc cells before
+  tree = heaps.heap cells before
 
   abbrev lower : QueueMeaning
   lower = queues.checked tree before
