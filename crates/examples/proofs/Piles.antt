@@ -1,10 +1,9 @@
-use Rattle.std.proofs.Common.{◌≡◌, ℕ, ◌+◌, ◌-◌, ◌<◌, min, List, length, replicate, IfOk, Ok, Err, Result, sym, ap, ◌∙◌, arith, MatchResult}
+use Rattle.std.proofs.Common.{◌≡◌, ℕ, ◌+◌, ◌-◌, ◌<◌, min, List, replicate, IfOk, Ok, Err, Result, ap, ◌∙◌, arith, MatchResult}
 use Rattle.std.proofs.lemmas.List.{length-replicate}
-use Rattle.parts.specs.Meaning.{Meaning, Keeps, Holds}
+use Rattle.parts.specs.Meaning.{Meaning, Keeps}
 use Rattle.parts.specs.Tallying.{Tallying, Laws}
 use Rattle.parts.proofs.Clauses.{size_is}
 use Rattle.memory_laws.specs.declared.call.Call.{Call}
-use Rattle.memory_laws.specs.declared.call.Answer.{Answer}
 use Rattle.memory_laws.specs.Checked.{Mem, plain, checked, StartsLoyal}
 use Rattle.memory_laws.specs.Runs.{ideal_answers}
 use Rattle.memory_laws.specs.Promise.{all_answers, Promise}

@@ -1,5 +1,5 @@
 -- Examples, each of which follows from the definitions.
-use Rattle.std.specs.Prelude.{◌≡◌, ℕ, ◌-◌, ◌^◌, ◌<◌, ◌≤◌, Ok, Err}
+use Rattle.std.specs.Prelude.{◌≡◌, ℕ, ◌-◌, ◌^◌, ◌<◌, Ok, Err}
 use Rattle.parts.specs.declared.fault.Cause.TheVariants.{StampAhead}
 use Rattle.parts.specs.Causes.{number_of}
 use Rattle.parts.specs.Meaning.{Meaning, fault}

@@ -1,5 +1,5 @@
 -- A checked memory over a store that keeps its meaning keeps its own.
-use Rattle.std.proofs.Common.{◌≡◌, ℕ, ◌+◌, ◌%◌, ◌^◌, ◌<◌, ◌≤◌, Bool, true, false, cond, ◌⊎◌, List, map, length, get_or, set, Some, None, Ok, Err, Option, Result, unwrap_or, sym, refl, ap, ◌∙◌, ⊎_elim, mod-lt, arith}
+use Rattle.std.proofs.Common.{◌≡◌, ℕ, ◌^◌, ◌<◌, ◌≤◌, List, map, get_or, set, Some, None, Ok, Err, Option, Result, unwrap_or, sym, refl, ap, ◌∙◌, ⊎_elim, mod-lt, arith}
 use native.Mathlib.Nat.{zero-mod}
 use lib.ListN.{get_or-map}
 use lib.Seq.{set-get_or}
@@ -9,10 +9,10 @@ use Rattle.std.proofs.lemmas.Nat.{pow_pos}
 use Rattle.parts.specs.declared.fault.Fault.{Fault}
 use Rattle.parts.specs.declared.fault.Cause.TheVariants.{NoSuchCell, WordTooWide}
 use Rattle.parts.specs.Outcomes.{Outcome, and_then, settled, unless_broken}
-use Rattle.parts.specs.Meaning.{Meaning, Keeps, Holds, fault, fit, reading, writing, written}
+use Rattle.parts.specs.Meaning.{Meaning, Keeps, fault, reading, writing, written}
 use Rattle.parts.specs.Tallying.{Tallying, Laws}
 use Rattle.parts.proofs.Clauses.{fit_says, says_fit}
-use Rattle.memory_laws.specs.Checked.{Mem, plain, value_of, at_broken, height, turned, visit, reads, writes, sweeps, sweep_all, done, Loyal, checked}
+use Rattle.memory_laws.specs.Checked.{Mem, plain, value_of, at_broken, height, turned, visit, reads, writes, sweeps, done, Loyal, checked}
 use Rattle.memory_laws.proofs.Loyalty.{Fine, sweep_is, ready_is, turn_is, unmoved}
 
 pub value_at : (w : ℕ) (xs : List ℕ) (a : ℕ) → get_or (map (value_of w) xs) a 0 ≡ value_of w (get_or xs a 0)

@@ -8,9 +8,9 @@ use Rattle.memory_laws.specs.declared.call.Call.{Call}
 use Rattle.memory_laws.specs.declared.call.Call.TheVariants.{Write, Read, Sweep}
 use Rattle.memory_laws.specs.declared.call.Answer.{Answer}
 use Rattle.memory_laws.specs.declared.call.Answer.TheVariants.{Written, Value, Passed}
-use Rattle.memory_laws.specs.Checked.{Memory, Mem, plain, stamp_bits, clock_end, stamp_of, word_of, at_store, at_clock, at_broken, on_store, examined, fetch, counted, put, retallied, rewritten, renewed, swept, compared, closed, sweep_all, ready, answered, restamped, turn, turned, visit, done, replaced, reads, writes, sweeps, cleared, blank, checkable, opened, made}
+use Rattle.memory_laws.specs.Checked.{Memory, Mem, plain, stamp_bits, clock_end, stamp_of, word_of, at_store, at_clock, at_broken, on_store, examined, fetch, counted, put, retallied, rewritten, renewed, swept, closed, sweep_all, ready, answered, restamped, turn, turned, visit, done, replaced, reads, writes, sweeps, cleared, blank, checkable, opened, made}
 use Rattle.memory_laws.specs.History.{Watched, watched}
-use Rattle.memory_laws.specs.Runs.{told, refused, performed, answers, after}
+use Rattle.memory_laws.specs.Runs.{told, performed, answers, after}
 use Rattle.memory_laws.specs.Promise.{start, all_answers, left}
 
 -- the memory over the store itself

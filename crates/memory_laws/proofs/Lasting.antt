@@ -1,8 +1,8 @@
 -- Histories that go on, and the values that they leave.
-use Rattle.std.proofs.Common.{◌≡◌, ℕ, zero, suc, ◌+◌, ◌<◌, ◌≤◌, ◌⊎◌, List, [], ◌∷◌, ◌++◌, length, get_or, take, sym, refl, ap, ◌∙◌, inl, inr, append_assoc, append-nil, arith, length-append, take_all, ne_eqb}
+use Rattle.std.proofs.Common.{◌≡◌, ℕ, zero, suc, ◌+◌, ◌<◌, ◌≤◌, ◌⊎◌, List, [], ◌∷◌, ◌++◌, length, get_or, take, sym, refl, ap, ◌∙◌, inl, inr, append_assoc, append-nil, arith, ne_eqb}
 use Rattle.std.proofs.lemmas.Bool.{cases_eq}
-use Rattle.memory_laws.specs.History.{update, count, Same, Bags, no_bags}
-use Rattle.memory_laws.proofs.Touches.{Touch, Epoch, writes, stale, words_after, bag_read, bag_written, touches, Each, Agree, stale_append, words_after_append, update_same, update_other}
+use Rattle.memory_laws.specs.History.{update, Same, no_bags}
+use Rattle.memory_laws.proofs.Touches.{Touch, Epoch, writes, stale, words_after, touches, Each, Agree, stale_append, words_after_append, update_same, update_other}
 use Rattle.memory_laws.proofs.Log.{Hist, all, push, close, bags, zeros, touches_append, all_push, all_close}
 use Rattle.memory_laws.proofs.Remembers.{Renews}
 

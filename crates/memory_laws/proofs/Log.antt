@@ -1,10 +1,10 @@
 -- A history by its epochs, and what its events say of them.
-use Rattle.std.proofs.Common.{◌≡◌, ℕ, zero, suc, ◌+◌, ◌<◌, ◌≤◌, Bool, true, false, cond, eqb, ◌≢◌, ◌⊎◌, List, [], ◌∷◌, ◌++◌, length, get_or, take, sym, refl, ap, ◌∙◌, subst, inl, inr, append_assoc, append-nil, arith}
+use Rattle.std.proofs.Common.{◌≡◌, ℕ, zero, suc, ◌+◌, Bool, true, false, cond, eqb, ◌⊎◌, List, [], ◌∷◌, ◌++◌, length, take, sym, refl, ap, ◌∙◌, subst, inl, inr, append_assoc, append-nil, arith}
 use mathlib.Core.Path.{fun_ext}
-use Rattle.std.proofs.lemmas.Bool.{cases_eq, cases_Bool}
+use Rattle.std.proofs.lemmas.Bool.{cases_Bool}
 use Rattle.memory_laws.specs.Checked.{record_of}
-use Rattle.memory_laws.specs.History.{Event, did_read, did_write, sweep_begins, sweep_ends, taken, update, misread_from, misread, count, Same, Bags, no_bags, epochs_from, epochs}
-use Rattle.memory_laws.proofs.Touches.{Touch, Epoch, reads, writes, stale, words_after, present, bag_read, bag_written, touches, Each, Agree, Sweeps, stale_append, words_after_append, whole}
+use Rattle.memory_laws.specs.History.{Event, did_read, did_write, sweep_begins, sweep_ends, taken, update, misread_from, misread, count, Same, Bags, epochs_from, epochs}
+use Rattle.memory_laws.proofs.Touches.{Touch, Epoch, reads, writes, stale, words_after, present, bag_read, bag_written, touches, Each, Sweeps, stale_append, words_after_append, whole}
 
 -- the epochs that ended, and the touches of the open one
 pub record Hist : Type 0 where

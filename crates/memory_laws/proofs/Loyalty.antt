@@ -1,5 +1,5 @@
 -- The checked memory over a loyal store: each call's outcome.
-use Rattle.std.proofs.Common.{◌≡◌, ℕ, zero, suc, ◌+◌, ◌*◌, ◌/◌, ◌%◌, ◌^◌, ◌<◌, ◌≤◌, min, true, ◌≢◌, ◌⊎◌, List, map, length, get_or, set, Ok, Err, Option, unwrap_or, sym, refl, ap, ◌∙◌, ⊎_elim, mod-lt, arith, length-set, get_or-set_other, get_or-set_same}
+use Rattle.std.proofs.Common.{◌≡◌, ℕ, zero, suc, ◌+◌, ◌^◌, ◌<◌, ◌≤◌, min, true, List, map, length, get_or, set, Ok, Option, unwrap_or, sym, refl, ap, ◌∙◌, ⊎_elim, mod-lt, arith, length-set, get_or-set_other, get_or-set_same}
 use native.Mathlib.Nat.{div-eq_of_lt, mod-mod}
 use lib.Seq.{map-set, map-set_same}
 use Rattle.std.proofs.lemmas.Bool.{cases_eq, lt-ltb, le-leb, eq-eqb, ne_eqb}
@@ -9,7 +9,7 @@ use Rattle.parts.specs.Outcomes.{Outcome, and_then, up_to}
 use Rattle.parts.specs.Meaning.{Meaning, Keeps, Holds}
 use Rattle.parts.specs.Tallying.{Tallying, Laws}
 use Rattle.parts.proofs.Clauses.{size_is, read_holds, read_is, word_below, write_is, write_holds}
-use Rattle.memory_laws.specs.Checked.{Memory, Mem, plain, clock_end, record_of, stamp_of, value_of, word_of, with_records, at_store, at_read, at_written, at_clock, at_epoch, height, fetch, put, renewed, swept, closed, sweep_all, ready, turn, Loyal, checked}
+use Rattle.memory_laws.specs.Checked.{Mem, plain, record_of, stamp_of, value_of, word_of, with_records, at_store, at_read, at_written, at_clock, at_epoch, height, fetch, put, renewed, swept, closed, sweep_all, ready, turn, Loyal, checked}
 use Rattle.memory_laws.proofs.Records.{added, records_past, records_exchanged}
 use Rattle.memory_laws.proofs.Numbers.{value_below}
 use Rattle.memory_laws.proofs.Numbers.{word_below as word_of_below}

@@ -1,5 +1,5 @@
 -- A checked memory made over a loyal store is loyal, with 0 in each cell.
-use Rattle.std.proofs.Common.{◌≡◌, ℕ, zero, suc, ◌+◌, ◌-◌, ◌%◌, ◌^◌, ◌<◌, ◌≤◌, min, true, ◌⊎◌, List, map, length, get_or, set, replicate, None, Ok, Err, sym, refl, ap, ◌∙◌, ⊎_elim, arith, length-set, get_or-set_other, get_or-set_same}
+use Rattle.std.proofs.Common.{◌≡◌, ℕ, zero, suc, ◌+◌, ◌-◌, ◌^◌, ◌<◌, ◌≤◌, min, true, List, map, length, get_or, set, replicate, Ok, sym, refl, ap, ◌∙◌, ⊎_elim, arith, length-set, get_or-set_other, get_or-set_same}
 use native.Mathlib.Nat.{zero-mod, zero-div}
 use Rattle.std.proofs.lemmas.List.{length-map, ext_get_or, get_or-replicate, length-replicate}
 use Rattle.std.proofs.lemmas.Bool.{cases_eq}
@@ -10,7 +10,7 @@ use Rattle.parts.specs.Outcomes.{Outcome, and_then, up_to, settled}
 use Rattle.parts.specs.Meaning.{Meaning, Keeps, Holds}
 use Rattle.parts.specs.Tallying.{Tallying, Laws}
 use Rattle.parts.proofs.Clauses.{fit_says, size_is, write_holds}
-use Rattle.memory_laws.specs.Checked.{Mem, plain, value_of, record_of, with_records, at_store, at_written, at_broken, put, cleared, blank, checkable, made, Loyal, checked}
+use Rattle.memory_laws.specs.Checked.{Mem, plain, value_of, record_of, with_records, at_written, at_broken, put, cleared, blank, checkable, made, checked}
 use Rattle.memory_laws.proofs.Records.{added, records_past}
 use Rattle.memory_laws.proofs.Loyalty.{put_is}
 use Rattle.memory_laws.proofs.CheckedKeeps.{value_at}

@@ -1,10 +1,10 @@
 -- The mix is one to one on numbers below 2 ^ 64, so both tallies keep their laws.
-use Rattle.std.proofs.Common.{◌≡◌, ℕ, ◌+◌, ◌*◌, ◌/◌, ◌%◌, ◌^◌, ◌<◌, eqb, sym, refl, ap, ◌∙◌, mod-lt, mod-eq_of_lt, mul_assoc, mul_comm, add-mul, div-add-mod', mul-one, arith, lit<}
-use native.Mathlib.Nat.{div-eq_of_lt, mod-mod, mul-add-mod_self_right, mod-add-mod, div-div-eq-div-mul}
+use Rattle.std.proofs.Common.{◌≡◌, ℕ, ◌+◌, ◌*◌, ◌/◌, ◌%◌, ◌^◌, ◌<◌, sym, ap, ◌∙◌, mod-lt, mod-eq_of_lt, mul_assoc, mul_comm, add-mul, div-add-mod', mul-one, arith}
+use native.Mathlib.Nat.{div-eq_of_lt, mul-add-mod_self_right, mod-add-mod, div-div-eq-div-mul}
 use lib.Bits.{bit_xor, xor_zero_r, xor_self, xor_assoc, xor_comm, xor_shr, xor_mod, xor_lt}
 use Rattle.std.proofs.lemmas.Bool.Decides.{Decides-eqb}
 use Rattle.std.proofs.lemmas.Nat.{pow_pos}
-use Rattle.parts.specs.Tallying.{Tallying, Laws}
+use Rattle.parts.specs.Tallying.{Laws}
 use Rattle.memory_laws.specs.Mix.{multiplied, folded, mix, sum_tally, xor_tally}
 
 mod_mul : (x y n : ℕ) → (x % n * y) % n ≡ (x * y) % n

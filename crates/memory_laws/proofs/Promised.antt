@@ -1,5 +1,5 @@
 -- The promise, of every list of calls on a checked memory just made.
-use Rattle.std.proofs.Common.{◌≡◌, ℕ, ◌+◌, ◌-◌, ◌<◌, ◌≤◌, min, Bool, true, false, cond, ◌⊎◌, List, [], ◌∷◌, length, get_or, take, replicate, None, Ok, Err, Result, sym, refl, ap, ◌∙◌, subst, inl, inr, arith}
+use Rattle.std.proofs.Common.{◌≡◌, ℕ, ◌+◌, ◌-◌, ◌<◌, ◌≤◌, min, Bool, true, false, cond, List, [], ◌∷◌, replicate, None, Ok, Err, Result, sym, refl, ap, ◌∙◌, inl, inr, arith}
 use Rattle.std.proofs.lemmas.Bool.{cases_Bool}
 use Rattle.std.proofs.lemmas.Bool.Decides.{nat_tests}
 use Rattle.parts.specs.declared.fault.Fault.{Fault}
@@ -9,14 +9,13 @@ use Rattle.parts.specs.Tallying.{Tallying, Laws}
 use Rattle.memory_laws.specs.declared.call.Call.{Call}
 use Rattle.memory_laws.specs.declared.call.Call.TheVariants.{Write, Read, Sweep}
 use Rattle.memory_laws.specs.declared.call.Answer.{Answer}
-use Rattle.memory_laws.specs.declared.call.Answer.TheVariants.{Written, Value, Passed, Declined}
-use Rattle.memory_laws.specs.Checked.{Memory, Mem, plain, stamp_bits, height, at_broken, cleared, blank, checkable, opened, made, reads, writes, sweeps, Loyal, checked}
+use Rattle.memory_laws.specs.declared.call.Answer.TheVariants.{Written, Value, Passed}
+use Rattle.memory_laws.specs.Checked.{Mem, plain, height, at_broken, cleared, blank, checkable, made, Loyal, checked}
 use Rattle.memory_laws.specs.History.{watched}
 use Rattle.memory_laws.specs.Runs.{told, refused, performed, answers, ideally, ideal_answers}
 use Rattle.memory_laws.specs.Promise.{start, all_answers, Promise}
-use Rattle.memory_laws.proofs.Loyalty.{Fine}
 use Rattle.memory_laws.proofs.CheckedKeeps.{reads_is, writes_is, sweeps_is}
-use Rattle.memory_laws.proofs.Making.{Made, made_is}
+use Rattle.memory_laws.proofs.Making.{made_is}
 use Rattle.memory_laws.proofs.Forget.{watched_answers}
 use Rattle.memory_laws.proofs.Whole.{Kept, kept_made}
 

@@ -1,5 +1,5 @@
 -- What the calls of a checked memory do to its history.
-use Rattle.std.proofs.Common.{◌≡◌, ℕ, zero, suc, ◌+◌, ◌*◌, ◌/◌, ◌%◌, ◌^◌, ◌<◌, ◌≤◌, Bool, true, false, cond, eqb, ltb, leb, ◌⊎◌, List, [], ◌∷◌, ◌++◌, length, Some, None, Ok, Err, Option, Result, unwrap_or, sym, refl, ap, ◌∙◌, subst, inl, inr, append_assoc, append-nil, mod-eq_of_lt, arith, length-append, ltb-true, leb-true}
+use Rattle.std.proofs.Common.{◌≡◌, ℕ, zero, suc, ◌+◌, ◌/◌, ◌^◌, ◌<◌, ◌≤◌, Bool, true, false, cond, eqb, ltb, leb, ◌⊎◌, List, [], ◌∷◌, ◌++◌, length, None, Ok, Err, Option, Result, unwrap_or, sym, refl, ap, ◌∙◌, subst, inl, inr, append_assoc, append-nil, mod-eq_of_lt, arith, ltb-true, leb-true}
 use native.Mathlib.Nat.{div-eq_of_lt}
 use lib.Arith.{digits_div, digits_mod}
 use borrow.Author.Tests.{eqb-false}
@@ -9,8 +9,8 @@ use Rattle.parts.specs.Outcomes.{Outcome, and_then, up_to}
 use Rattle.parts.specs.Meaning.{Meaning}
 use Rattle.parts.specs.Tallying.{Tallying, Laws}
 use Rattle.parts.proofs.Steps.{never, both_answered}
-use Rattle.memory_laws.specs.Checked.{Memory, Mem, clock_end, record_of, stamp_of, value_of, word_of, at_store, at_read, at_clock, on_store, examined, fetch, counted, put, retallied, rewritten, renewed, swept, compared, closed, sweep_all, ready, answered, restamped, turn, turned, visit, cleared}
-use Rattle.memory_laws.specs.History.{Event, did_read, did_write, sweep_begins, sweep_ends, Watched, watched, watching, noted}
+use Rattle.memory_laws.specs.Checked.{Mem, clock_end, record_of, stamp_of, value_of, word_of, at_store, at_read, at_clock, on_store, examined, fetch, counted, put, retallied, rewritten, renewed, swept, closed, sweep_all, answered, restamped, turn, turned, visit, cleared}
+use Rattle.memory_laws.specs.History.{Event, did_read, did_write, sweep_begins, sweep_ends, watched, watching, noted}
 use Rattle.memory_laws.proofs.Numbers.{word_low, word_fits, value_below}
 use Rattle.memory_laws.proofs.Bags.{tallied, tallied_more}
 use Rattle.memory_laws.proofs.Touches.{Touch, Epoch, reads, writes, Within, Timed, Sweeps, Sound, Each, Agree, bag_read, bag_written, reads_append, writes_append, within_append}

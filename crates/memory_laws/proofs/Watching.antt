@@ -1,5 +1,5 @@
 -- The runs of a memory that is watched: what each call did, and what is promised of every list of calls.
-use Rattle.std.proofs.Common.{◌≡◌, ℕ, zero, suc, ◌+◌, ◌-◌, ◌^◌, ◌<◌, ◌≤◌, Bool, true, false, cond, ltb, ◌≢◌, ◌⊎◌, List, [], ◌∷◌, ◌++◌, length, get_or, take, drop, set, replicate, Some, None, Ok, Err, Option, Result, unwrap_or, sym, refl, ap, ◌∙◌, subst, inl, inr, ⊎_elim, append-nil, arith, length-set, get_or-set_other, get_or-set_same, ltb-true}
+use Rattle.std.proofs.Common.{◌≡◌, ℕ, zero, suc, ◌^◌, ◌<◌, ◌≤◌, cond, ltb, ◌⊎◌, List, [], ◌∷◌, length, get_or, take, drop, set, Some, None, Err, Option, Result, sym, refl, ap, ◌∙◌, subst, inl, inr, ⊎_elim, arith, length-set, get_or-set_other, get_or-set_same}
 use Rattle.std.proofs.lemmas.Bool.{cases_eq, cases_lt, lt-ltb, le-ltb}
 use Rattle.parts.specs.declared.fault.Fault.{Fault}
 use Rattle.parts.specs.declared.fault.Cause.TheVariants.{NoSuchCell, WordTooWide}
@@ -11,18 +11,16 @@ use Rattle.memory_laws.specs.declared.call.Call.TheVariants.{Write, Read, Sweep}
 use Rattle.memory_laws.specs.declared.call.Answer.{Answer}
 use Rattle.memory_laws.specs.declared.call.Answer.TheVariants.{Written, Value, Passed, Declined, Failed}
 use Rattle.memory_laws.specs.Checked.{Mem, at_broken, height, visit, done, replaced, reads, writes, sweeps, sweep_all}
-use Rattle.memory_laws.specs.History.{Event, sweep_ends, watched, misread, update, epochs, no_bags, Same}
+use Rattle.memory_laws.specs.History.{watched, update}
 use Rattle.memory_laws.specs.Runs.{told, refused, performed, answers, after, ideal_words}
-use Rattle.memory_laws.specs.Runs.{accepted}
 use Rattle.memory_laws.proofs.CheckedKeeps.{unbroken_is}
-use Rattle.memory_laws.proofs.Touches.{Touch, stale, words_after, touches, update_same, update_other}
-use Rattle.memory_laws.proofs.Offline.{offline_from, one_shows_from}
-use Rattle.memory_laws.proofs.Log.{Hist, all, fresh, push, close, zeros, flat, bags, bags_length, made_records, made_same, misread_flat, misread_cut, epochs_flat}
-use Rattle.memory_laws.proofs.Remembers.{Good, Held, Trail, held_trail, Faultless, Swept, Ended, May, Visited, Came, sweep_is, visit_is, stamp, value}
+use Rattle.memory_laws.proofs.Touches.{Touch, stale, words_after, update_same, update_other}
+use Rattle.memory_laws.proofs.Log.{Hist, all, push, close, zeros}
+use Rattle.memory_laws.proofs.Remembers.{Held, Trail, Swept, Ended, May, Visited, Came, sweep_is, visit_is, stamp, value}
 use Rattle.memory_laws.proofs.Remembers.Ended.{passes, fails}
 use Rattle.memory_laws.proofs.Remembers.Came.{visits, fails as strays}
 use Rattle.memory_laws.proofs.Remembers.May.{stays, sweeps_first}
-use Rattle.memory_laws.proofs.Lasting.{Later, later_refl, later_trans, later_push, later_close, prefix_stale, each_take, agree_take, same_take, Noted, noted_close, pushed}
+use Rattle.memory_laws.proofs.Lasting.{Later, later_refl, later_trans, later_push, later_close, Noted, noted_close, pushed}
 
 -- a list of calls, cut after the first i
 module _ {T V : Type 0} (b : Rattle.memory_laws.specs.Checked.Base) (l : T → Tallying V) where

@@ -1,26 +1,24 @@
 -- What is promised of every list of calls on a memory just made, over any store.
-use Rattle.std.proofs.Common.{◌≡◌, ℕ, zero, suc, ◌+◌, ◌-◌, ◌^◌, ◌<◌, ◌≤◌, min, Bool, true, false, cond, ◌≢◌, ◌⊎◌, List, [], ◌∷◌, ◌++◌, length, get_or, take, drop, replicate, Some, None, Ok, Err, Option, Result, sym, refl, ap, ◌∙◌, subst, inl, inr, append_assoc, append-nil, zero-add, arith}
+use Rattle.std.proofs.Common.{◌≡◌, ℕ, zero, suc, ◌+◌, ◌^◌, ◌<◌, ◌≤◌, ◌≢◌, ◌⊎◌, List, [], ◌∷◌, ◌++◌, length, get_or, take, drop, replicate, Some, None, Ok, Err, Result, sym, refl, ap, ◌∙◌, subst, inl, inr, append-nil, zero-add, arith}
 use native.Mathlib.Nat.{zero-mod}
 use Rattle.std.proofs.lemmas.List.{get_or-replicate, length-replicate}
-use Rattle.std.proofs.lemmas.Bool.{cases_Bool}
-use Rattle.std.proofs.lemmas.Bool.Decides.{nat_tests}
 use Rattle.parts.specs.declared.fault.Fault.{Fault}
-use Rattle.parts.specs.Outcomes.{Outcome, and_then, up_to, settled}
-use Rattle.parts.specs.Meaning.{Meaning, Keeps}
+use Rattle.parts.specs.Outcomes.{Outcome, up_to, settled}
+use Rattle.parts.specs.Meaning.{Meaning}
 use Rattle.parts.specs.Tallying.{Tallying, Laws}
 use Rattle.parts.proofs.Steps.{both_answered}
 use Rattle.memory_laws.specs.declared.call.Call.{Call}
-use Rattle.memory_laws.specs.declared.call.Call.TheVariants.{Write, Read, Sweep}
+use Rattle.memory_laws.specs.declared.call.Call.TheVariants.{Read, Sweep}
 use Rattle.memory_laws.specs.declared.call.Answer.{Answer}
-use Rattle.memory_laws.specs.declared.call.Answer.TheVariants.{Written, Value, Passed, Declined, Failed}
-use Rattle.memory_laws.specs.Checked.{Mem, record_of, stamp_of, at_broken, put, cleared, blank, checkable, opened}
-use Rattle.memory_laws.specs.History.{Event, did_write, sweep_begins, sweep_ends, taken, Watched, watched, misread, epochs, no_bags, Same}
+use Rattle.memory_laws.specs.declared.call.Answer.TheVariants.{Value, Passed, Failed}
+use Rattle.memory_laws.specs.Checked.{Mem, record_of, stamp_of, at_broken, put, cleared}
+use Rattle.memory_laws.specs.History.{Event, did_write, sweep_begins, sweep_ends, taken, watched, misread, epochs, no_bags, Same}
 use Rattle.memory_laws.specs.Runs.{performed, accepted, answers, after, ideal_words}
 use Rattle.memory_laws.proofs.Bags.{tallied, tallied_more}
 use Rattle.memory_laws.proofs.Touches.{Touch, Epoch, stale, touches, Each, Agree, Sound, Sweeps}
 use Rattle.memory_laws.proofs.Offline.{offline_from, one_shows_from}
 use Rattle.memory_laws.proofs.Log.{Hist, all, fresh, push, close, zeros, flat, bags, bags_length, made_from, made_records, made_same, misread_flat, misread_cut, epochs_flat, Endless, none_among, whole_sweep}
-use Rattle.memory_laws.proofs.Remembers.{Good, Held, Trail, held_trail, Visited, Swept, put_is, after_put, Grows, grows_cleared}
+use Rattle.memory_laws.proofs.Remembers.{Held, Trail, held_trail, Visited, Swept, put_is, Grows, grows_cleared}
 use Rattle.memory_laws.proofs.Lasting.{Later, prefix_stale, each_take, agree_take, same_take}
 use Rattle.memory_laws.proofs.Watching.{answer_at, after_one, after_rest, Did, did, Reached, reach, Notes, broken_performed, broken_after, read_ideal, read_notes}
 use Rattle.memory_laws.proofs.Watching.Did.{did_write as done_write, did_read as done_read, did_sweep, did_decline, did_break}

@@ -1,5 +1,5 @@
 -- The checked memory over any store, as a machine of plain values.
-use Rattle.std.specs.Prelude.{◌≡◌, ℕ, zero, suc, ◌+◌, ◌-◌, ◌*◌, ◌/◌, ◌%◌, ◌^◌, ◌<◌, ◌≤◌, min, Bool, true, cond, ◌&&◌, List, map, replicate, Some, None, Ok, Err, Option, ◌==◌, nat_le, nat_lt, slice_index}
+use Rattle.std.specs.Prelude.{◌≡◌, ℕ, zero, suc, ◌+◌, ◌-◌, ◌*◌, ◌/◌, ◌%◌, ◌^◌, ◌<◌, ◌≤◌, min, Bool, cond, ◌&&◌, List, map, replicate, Some, None, Ok, Err, Option, ◌==◌, nat_le, nat_lt, slice_index}
 use Rattle.std.specs.Option.{unwrap_or}
 use Rattle.parts.specs.declared.fault.Fault.{Fault}
 use Rattle.parts.specs.declared.fault.Cause.TheVariants.{NoSuchCell, WordTooWide, WiderThanStore, StampAhead, TalliesDiffer}

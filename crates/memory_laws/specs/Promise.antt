@@ -8,7 +8,7 @@ use Rattle.memory_laws.specs.declared.call.Call.TheVariants.{Read, Sweep}
 use Rattle.memory_laws.specs.declared.call.Answer.{Answer}
 use Rattle.memory_laws.specs.declared.call.Answer.TheVariants.{Value, Passed, Failed}
 use Rattle.memory_laws.specs.Checked.{Mem, stamp_bits, checkable, opened}
-use Rattle.memory_laws.specs.History.{Event, sweep_begins, sweep_ends, taken, Watched, watched, misread, epochs, Bags, no_bags, Same}
+use Rattle.memory_laws.specs.History.{Event, sweep_begins, sweep_ends, taken, watched, misread, epochs, no_bags, Same}
 use Rattle.memory_laws.specs.Runs.{answers, after, accepted, ideal_words, ideal_answers}
 
 module _ (m : Meaning) {T V : Type 0} (l : T → Tallying V) (s : m.State) (t : T) where

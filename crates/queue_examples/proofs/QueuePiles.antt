@@ -1,6 +1,6 @@
-use Rattle.std.proofs.Common.{◌≡◌, ℕ, ◌+◌, ◌-◌, ◌<◌, ◌≤◌, min, Bool, List, length, replicate, IfOk, Ok, Err, Result, sym, ap, ◌∙◌, subst, arith, MatchResult}
+use Rattle.std.proofs.Common.{◌≡◌, ℕ, ◌+◌, ◌-◌, ◌≤◌, min, Bool, List, replicate, IfOk, Ok, Err, Result, ap, ◌∙◌, subst, arith, MatchResult}
 use Rattle.std.proofs.lemmas.List.{length-replicate}
-use Rattle.parts.specs.Meaning.{Meaning, Keeps, Holds}
+use Rattle.parts.specs.Meaning.{Meaning, Keeps}
 use Rattle.parts.specs.Orders.{OrderLaws}
 use Rattle.parts.specs.Queues.{QueueMeaning, most_tickets, nothing_waits}
 use Rattle.parts.specs.Tallying.{Tallying, Laws}

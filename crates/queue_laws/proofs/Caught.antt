@@ -1,6 +1,6 @@
 -- A ticket that was passed over is caught, and bounds only rise.
-use Rattle.std.proofs.Common.{◌≡◌, ℕ, zero, suc, ◌<◌, ◌≤◌, Bool, true, false, cond, ◌≢◌, List, [], ◌∷◌, length, get_or, take, is_some, Some, None, Option, sym, refl, ap, ◌∙◌, subst, ⊎_elim, arith}
-use Rattle.std.proofs.lemmas.Bool.{cases_eq, cases_lt, cases_Bool, both_ways, lt-ltb}
+use Rattle.std.proofs.Common.{◌≡◌, ℕ, zero, suc, ◌<◌, ◌≤◌, Bool, true, false, cond, ◌≢◌, List, [], ◌∷◌, length, get_or, take, Some, None, Option, sym, refl, ap, ◌∙◌, subst, ⊎_elim, arith}
+use Rattle.std.proofs.lemmas.Bool.{cases_eq, cases_lt, both_ways, lt-ltb}
 use Rattle.parts.specs.declared.fault.Cause.TheVariants.{KeyBeforeBound}
 use Rattle.parts.specs.declared.fault.QueueFault.{QueueFault}
 use Rattle.parts.specs.Orders.{OrderLaws}
@@ -11,8 +11,8 @@ use Rattle.parts.proofs.Runs.{answer_at, after_one, answers_take}
 use Rattle.queue_laws.specs.declared.call.Call.{Call}
 use Rattle.queue_laws.specs.declared.call.Call.TheVariants.{Put, Remove, Least, Audit, Clear}
 use Rattle.queue_laws.specs.declared.call.Answer.{Answer}
-use Rattle.queue_laws.specs.declared.call.Answer.TheVariants.{Entered, Removed, Named, Nothing, Passed, Cleared, Declined, Failed}
-use Rattle.queue_laws.specs.Tables.{Row, Table, with_row, fresh_row, key_in, waiting, raised_bound, raised_row, raised, before_bound, offends, first_offender}
+use Rattle.queue_laws.specs.declared.call.Answer.TheVariants.{Named, Passed, Declined, Failed}
+use Rattle.queue_laws.specs.Tables.{Row, with_row, fresh_row, key_in, waiting, raised_bound, raised_row, raised, before_bound, offends, first_offender}
 use Rattle.queue_laws.specs.CheckedQueue.{Chk, height, made}
 use Rattle.queue_laws.specs.QueueRuns.{performed, failed, after_call, waits_after}
 use Rattle.queue_laws.specs.QueuePromise.{Risen, all_answers, left, waits_at, PassedOver, Follows, NoFaultBefore}

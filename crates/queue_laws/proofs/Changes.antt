@@ -1,17 +1,17 @@
 -- What a call on a check is answered and leaves, way by way.
-use Rattle.std.proofs.Common.{◌≡◌, ℕ, Bool, true, false, cond, eqb, Some, None, Ok, Err, Option, Result, sym, refl, ap, ◌∙◌, subst, arith}
+use Rattle.std.proofs.Common.{◌≡◌, ℕ, Bool, true, false, cond, eqb, Some, None, Ok, Err, Option, Result, sym, refl, subst}
 use Rattle.std.proofs.lemmas.Bool.{eqb-true}
 use Rattle.parts.specs.declared.fault.Cause.{Cause}
 use Rattle.parts.specs.declared.fault.Cause.TheVariants.{NothingNamed, NamedNotWaiting, KeyBeforeBound}
 use Rattle.parts.specs.declared.fault.QueueFault.{QueueFault}
-use Rattle.parts.specs.Outcomes.{Outcome, and_then, settled, unless_broken}
+use Rattle.parts.specs.Outcomes.{and_then, settled, unless_broken}
 use Rattle.parts.specs.Queues.{QueueMeaning, found, put_declined, remove_declined}
 use Rattle.queue_laws.specs.declared.call.Call.{Call}
 use Rattle.queue_laws.specs.declared.call.Call.TheVariants.{Put, Remove, Least, Audit, Clear}
 use Rattle.queue_laws.specs.declared.call.Answer.{Answer}
 use Rattle.queue_laws.specs.declared.call.Answer.TheVariants.{Entered, Removed, Named, Nothing, Passed, Cleared, Declined, Failed}
 use Rattle.queue_laws.specs.Tables.{Row, Table, empty_table, with_row, fresh_row, waiting, first_waiting, raised, offends, first_offender}
-use Rattle.queue_laws.specs.CheckedQueue.{Chk, Does, height, at_below, at_table, at_broken, on_queue, finds, unless_declined, entered, taken, raising, named, if_any, auditing, emptied, puts, removes, leasts, audits, clears}
+use Rattle.queue_laws.specs.CheckedQueue.{Chk, Does, height, at_below, at_table, at_broken, on_queue, finds, unless_declined, entered, taken, raising, named, if_any, auditing, emptied}
 use Rattle.queue_laws.specs.QueueRuns.{naming_of, refused, told, performed}
 
 module _ (q : QueueMeaning) (before : ℕ → ℕ → Bool) where

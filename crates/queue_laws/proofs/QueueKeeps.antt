@@ -1,12 +1,12 @@
 -- A check over a queue keeps what a loyal queue keeps.
-use Rattle.std.proofs.Common.{◌≡◌, ℕ, ◌+◌, ◌<◌, ◌≤◌, min, Bool, true, false, cond, eqb, ltb, leb, ◌≢◌, is_some, Some, None, Ok, Option, sym, refl, ap, ◌∙◌, subst, ⊎_elim, arith}
-use Rattle.std.proofs.lemmas.Bool.{cases_eq, cases_lt, cases_Bool, lt-ltb, ne_eqb}
+use Rattle.std.proofs.Common.{◌≡◌, ℕ, ◌+◌, ◌<◌, ◌≤◌, min, Bool, true, false, cond, eqb, ◌≢◌, is_some, Some, None, Ok, Option, sym, refl, ap, ◌∙◌, subst, ⊎_elim, arith}
+use Rattle.std.proofs.lemmas.Bool.{cases_eq, cases_lt, lt-ltb, ne_eqb}
 use Rattle.std.proofs.lemmas.Bool.Decides.{nat_tests}
 use Rattle.parts.specs.declared.fault.Cause.{Cause}
 use Rattle.parts.specs.declared.fault.QueueFault.{QueueFault}
 use Rattle.parts.specs.Outcomes.{Outcome}
 use Rattle.parts.specs.Queues.{Entries, key_limit, nothing_waits, with_entry, put_declined, remove_declined, Named, QueueMeaning, Holds, Unaltered, Owes, KeepsQueue}
-use Rattle.queue_laws.specs.Tables.{Row, Table, empty_table, with_row, fresh_row, key_in, waiting, first_waiting, raised_bound, raised_row, raised, before_bound, offends, first_offender}
+use Rattle.queue_laws.specs.Tables.{Row, Table, with_row, fresh_row, key_in, waiting, first_waiting, raised_bound, raised_row, raised, before_bound, offends}
 use Rattle.queue_laws.specs.CheckedQueue.{Chk, fitting, at_below, at_table, puts, removes, leasts, audits, clears, made, Loyal, checked, Fits, StartsLoyal}
 use Rattle.queue_laws.proofs.Firsts.{apart, first_some, first_absent}
 use Rattle.queue_laws.proofs.Rows.{row_same, row_other, waiting_with, row_of, no_row, waiting_raised, put_accepted, remove_accepted}

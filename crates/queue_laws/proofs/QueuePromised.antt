@@ -8,8 +8,8 @@ use Rattle.parts.specs.Runs.{answers}
 use Rattle.queue_laws.specs.declared.call.Call.{Call}
 use Rattle.queue_laws.specs.declared.call.Call.TheVariants.{Put, Remove, Least, Audit, Clear}
 use Rattle.queue_laws.specs.declared.call.Answer.{Answer}
-use Rattle.queue_laws.specs.declared.call.Answer.TheVariants.{Entered, Removed, Passed, Cleared, Declined, Failed}
-use Rattle.queue_laws.specs.CheckedQueue.{Chk, Does, height, puts, removes, leasts, audits, clears, made, Loyal, checked, Fits}
+use Rattle.queue_laws.specs.declared.call.Answer.TheVariants.{Entered, Removed, Cleared, Declined}
+use Rattle.queue_laws.specs.CheckedQueue.{Chk, Does, height, puts, removes, leasts, clears, made, Loyal, checked, Fits}
 use Rattle.queue_laws.specs.QueueRuns.{naming_of, refused, told, performed, after_call, ideally, CanAnswer, CanGive}
 use Rattle.queue_laws.specs.QueuePromise.{all_answers, Promise}
 use Rattle.queue_laws.proofs.QueueKeeps.{checked_keeps, loyal_audit, fitting_is, starts_loyal}

@@ -1,9 +1,9 @@
 -- The outcome of each call on an unbroken check, where all goes well below, as one equation.
-use Rattle.std.proofs.Common.{◌≡◌, ℕ, Bool, true, false, eqb, Some, None, Ok, Err}
+use Rattle.std.proofs.Common.{◌≡◌, ℕ, Bool, false, eqb, Some, None, Ok, Err}
 use Rattle.parts.specs.declared.fault.Cause.{Cause}
 use Rattle.parts.specs.Queues.{QueueMeaning, found, put_declined, remove_declined}
 use Rattle.queue_laws.specs.Tables.{Row, empty_table, with_row, fresh_row, waiting, first_waiting, raised, offends, first_offender}
-use Rattle.queue_laws.specs.CheckedQueue.{Chk, Does, height, at_below, at_table, puts, removes, leasts, audits, clears}
+use Rattle.queue_laws.specs.CheckedQueue.{Chk, height, at_below, at_table, puts, removes, leasts, audits, clears}
 
 module _ (q : QueueMeaning) (before : ℕ → ℕ → Bool) (s : Chk q before) (ok : s.broken ≡ None) where
   pub put_refused : (t k : ℕ) (c : Cause) → put_declined s.capacity (waiting s.table) t k ≡ Some c → puts q before t k s ≡ (Err (found c (height q before s) t), s)

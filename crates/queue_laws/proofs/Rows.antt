@@ -1,10 +1,10 @@
 -- Tables, row by row.
-use Rattle.std.proofs.Common.{◌≡◌, ℕ, ◌<◌, Bool, true, false, cond, eqb, ltb, ◌≢◌, is_some as option_is_some, Some, None, Option, sym, refl, ap, ◌∙◌, ⊎_elim, arith}
+use Rattle.std.proofs.Common.{◌≡◌, ℕ, ◌<◌, Bool, true, false, cond, eqb, ltb, ◌≢◌, is_some as option_is_some, Some, None, Option, refl, arith}
 use mathlib.Core.Path.{fun_ext}
-use Rattle.std.proofs.lemmas.Bool.{eq-eqb, ne_eqb, ltb-true, cases_Bool}
+use Rattle.std.proofs.lemmas.Bool.{eq-eqb, ne_eqb, ltb-true}
 use Rattle.parts.specs.declared.fault.Cause.TheVariants.{NoSuchTicket, KeyTooLarge, TicketInUse, NotWaiting}
 use Rattle.parts.specs.Queues.{Entries, key_limit, with_entry, put_declined, remove_declined}
-use Rattle.queue_laws.specs.Tables.{Row, Table, with_row, key_in, waiting, raised_bound, raised_row, raised, before_bound, offends}
+use Rattle.queue_laws.specs.Tables.{Row, Table, with_row, key_in, waiting, raised_row, raised}
 use Rattle.queue_laws.proofs.Firsts.{apart}
 
 module _ (T : Table) (t : ℕ) (r : Option Row) where

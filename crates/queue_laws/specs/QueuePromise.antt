@@ -8,7 +8,7 @@ use Rattle.queue_laws.specs.declared.call.Call.{Call}
 use Rattle.queue_laws.specs.declared.call.Call.TheVariants.{Remove, Least, Audit, Clear}
 use Rattle.queue_laws.specs.declared.call.Answer.{Answer}
 use Rattle.queue_laws.specs.declared.call.Answer.TheVariants.{Named, Passed, Failed}
-use Rattle.queue_laws.specs.Tables.{Row, Table}
+use Rattle.queue_laws.specs.Tables.{Row}
 use Rattle.queue_laws.specs.CheckedQueue.{Chk, made, Fits}
 use Rattle.queue_laws.specs.QueueRuns.{performed, failed, waits_after, CanGive}
 

@@ -1,4 +1,4 @@
-use Rattle.std.proofs.Common.{◌≡◌, ℕ, ◌-◌, ◌<◌, ◌≤◌, true, false, leb, List, [], ◌∷◌, length, get_or, take, drop, sym, refl, ap, ◌∙◌, arith, take_all}
+use Rattle.std.proofs.Common.{◌≡◌, ℕ, ◌-◌, ◌<◌, ◌≤◌, true, false, leb, List, [], ◌∷◌, length, get_or, take, drop, refl, arith, take_all}
 use Rattle.parts.specs.Meaning.{Meaning, Keeps, Holds}
 use Rattle.store_laws.specs.declared.Alteration.{Alteration}
 use Rattle.store_laws.specs.AlteringMachine.{Altered, due, after_due, altering}

@@ -1,10 +1,9 @@
-use Rattle.std.proofs.Common.{◌≡◌, ℕ, ◌^◌, ◌<◌, Bool, true, cond, ltb, List, length, get_or, set, replicate, sym, refl, ap, ◌∙◌, ⊎_elim, arith, length-set, get_or-set_other, get_or-set_same}
+use Rattle.std.proofs.Common.{◌≡◌, ℕ, ◌^◌, ◌<◌, true, ltb, List, length, get_or, set, replicate, refl, ⊎_elim, arith, length-set, get_or-set_other, get_or-set_same}
 use Rattle.std.proofs.lemmas.List.{get_or-replicate, length-replicate}
 use Rattle.std.proofs.lemmas.Nat.{pow_pos}
-use Rattle.std.proofs.lemmas.Bool.Decides.{nat_tests}
 use Rattle.std.proofs.lemmas.Bool.{cases_eq, cond_both, ltb-true}
-use Rattle.parts.specs.Meaning.{Keeps, Holds, fit, written}
-use Rattle.store_laws.specs.ArrayMachine.{Words, fits, array_meaning, array_size}
+use Rattle.parts.specs.Meaning.{Keeps, fit, written}
+use Rattle.store_laws.specs.ArrayMachine.{Words, array_meaning, array_size}
 
 below_set : (xs : List ℕ) (i v k n : ℕ) → v < n → ((a : ℕ) → a < length xs → get_or xs a 0 < n) → k < length (set xs i v) → get_or (set xs i v) k 0 < n
 below_set xs i v k n lv h lt =

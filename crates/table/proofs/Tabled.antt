@@ -1,11 +1,11 @@
 -- The rows of a table's arrays, and the table on the way of a loop that raises its bounds.
-use Rattle.std.proofs.Common.{◌≡◌, ℕ, ◌+◌, ◌<◌, ◌≤◌, Bool, true, false, cond, eqb, ltb, ◌≢◌, List, get_or, replicate, is_some, Some, None, Option, sym, refl, ap, ◌∙◌, ⊎_elim, arith}
+use Rattle.std.proofs.Common.{◌≡◌, ℕ, ◌+◌, ◌<◌, ◌≤◌, Bool, true, false, cond, ltb, ◌≢◌, List, get_or, replicate, is_some, None, Option, sym, refl, ap, ◌∙◌, ⊎_elim, arith}
 use mathlib.Core.Path.{fun_ext}
 use Rattle.std.proofs.lemmas.List.{get_or_past, get_or-replicate, length-replicate}
-use Rattle.std.proofs.lemmas.Bool.{cases_eq, cases_lt, lt-ltb, le-ltb, eq-eqb, ne_eqb}
+use Rattle.std.proofs.lemmas.Bool.{cases_eq, cases_lt, lt-ltb, le-ltb, eq-eqb}
 use Rattle.parts.specs.Queues.{most_tickets}
 use Rattle.queue_laws.specs.Tables.{Row, empty_table, with_row, raised_row, raised}
-use Rattle.queue_laws.proofs.Rows.{row_same, row_other}
+use Rattle.queue_laws.proofs.Rows.{row_other}
 use Rattle.table.specs.declared.table.Table.{Table}
 use Rattle.table.specs.Rows.{row, rows}
 

@@ -1,5 +1,5 @@
 -- The answers to a card section's calls, from those of the call that performs them.
-use Rattle.std.proofs.Common.{◌≡◌, ℕ, min, Bool, true, false, cond, List, length, replicate, IfOk, Ok, Err, Result, sym, refl, ap, ◌∙◌, MatchResult}
+use Rattle.std.proofs.Common.{◌≡◌, ℕ, min, Bool, true, false, cond, List, length, replicate, IfOk, Ok, Err, Result, refl, ap, ◌∙◌, MatchResult}
 use lib.ListN.{length-replicate}
 use Rattle.memory_laws.specs.Mix.{sum_tally, xor_tally}
 use Rattle.memory_laws.specs.Promise.{all_answers}

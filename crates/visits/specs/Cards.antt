@@ -1,5 +1,5 @@
 -- What the calls of a card section are answered.
-use Rattle.std.specs.Prelude.{ℕ, min, List, [], replicate, vec_items}
+use Rattle.std.specs.Prelude.{min, List, replicate}
 use Rattle.std.specs.Option.{unwrap_or}
 use Rattle.memory_laws.specs.Mix.{sum_tally, xor_tally}
 use Rattle.memory_laws.specs.Promise.{all_answers}

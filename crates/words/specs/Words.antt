@@ -1,5 +1,5 @@
 -- A line and its words.
-use Rattle.std.specs.Prelude.{ℕ, ◌-◌, Bool, true, false, cond, not, ◌||◌, List, [], ◌∷◌, length, take, drop, ◌==◌}
+use Rattle.std.specs.Prelude.{ℕ, ◌-◌, Bool, false, cond, not, ◌||◌, List, [], ◌∷◌, length, take, drop, ◌==◌}
 use Rattle.std.specs.List.{prefix_len, suffix_len}
 
 -- space, tab and carriage return

@@ -1,4 +1,4 @@
-use Rattle.std.proofs.Common.{◌≡◌, ◌-◌, ◌<◌, length, get_or, take, vec_len, vec_capacity, sym, refl, ap, ◌∙◌, add-zero, arith, length-take}
+use Rattle.std.proofs.Common.{◌-◌, ◌<◌, length, take, vec_len, vec_capacity, sym, refl, ◌∙◌, add-zero, arith, length-take}
 use Rattle.std.proofs.lemmas.List.{get_or-take}
 use Rattle.parts.proofs.Runs.{begun, one_more, finished}
 use Rattle.runs.proofs.perform_all.Goals as goal

@@ -1,4 +1,4 @@
-use Rattle.std.proofs.Common.{◌≡◌, ℕ, ◌+◌, min, List, sym, subst}
+use Rattle.std.proofs.Common.{ℕ, ◌+◌, min, List, sym, subst}
 use Rattle.parts.specs.Queues.{nothing_waits}
 use Rattle.memory_laws.proofs.Mixes.{sum_laws}
 use Rattle.memory_laws.specs.Mix.{sum_tally}

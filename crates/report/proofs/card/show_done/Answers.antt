@@ -1,4 +1,4 @@
-use Rattle.std.proofs.Common.{◌≡◌, ◌++◌, length, codes, decimal, count_by, ap, ◌∙◌, subst}
+use Rattle.std.proofs.Common.{◌++◌, length, codes, decimal, count_by, ap, ◌∙◌, subst}
 use Rattle.report.specs.Cards.{is_passed}
 use Rattle.report.specs.Shown.{written, shown_first, Adds}
 use Rattle.report.proofs.Adding.{then_adds}

@@ -1,4 +1,4 @@
-use Rattle.std.proofs.Common.{sym, ◌∙◌}
+use Rattle.std.proofs.Common.{sym}
 use Rattle.report.proofs.Firsts.{first_later, first_here, first_none}
 use Rattle.report.proofs.shown.first_fault.Goals as goal
 

@@ -1,4 +1,4 @@
-use Rattle.std.proofs.Common.{◌≡◌, min, length, replicate, vec_items, ap, ◌∙◌}
+use Rattle.std.proofs.Common.{◌≡◌, length, replicate, vec_items, ap, ◌∙◌}
 use Rattle.parts.specs.Meaning.{fit}
 use Rattle.store.specs.declared.array.Array.{Array}
 use Rattle.visits.specs.Cards.{answers_to}

@@ -1,5 +1,5 @@
-use Rattle.std.proofs.Common.{◌≡◌, ap, ◌∙◌, rules}
-use Rattle.queue_laws.specs.CheckedQueue.{Chk, audits}
+use Rattle.std.proofs.Common.{ap, ◌∙◌, rules}
+use Rattle.queue_laws.specs.CheckedQueue.{audits}
 use Rattle.queue_laws.proofs.QueueKeeps.{loyal_audit}
 use Rattle.queue.specs.View.{view, Does}
 use Rattle.queue.proofs.checked.CheckedQueue.audit.Goals as goal

@@ -1,4 +1,4 @@
-use Rattle.std.proofs.Common.{◌≡◌, ◌++◌, codes, decimal, ap, ◌∙◌}
+use Rattle.std.proofs.Common.{◌++◌, codes, decimal, ap, ◌∙◌}
 use Rattle.report.specs.Shown.{written, shown_cause}
 use Rattle.report.proofs.Adding.{then_adds}
 use Rattle.report.proofs.out.Out.fault.Goals as goal

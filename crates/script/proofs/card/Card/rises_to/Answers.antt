@@ -1,4 +1,4 @@
-use Rattle.std.proofs.Common.{◌≡◌, ℕ, ◌≤◌, true, leb, List, [], ◌∷◌, length, vec_items, sym, refl, ◌∙◌, arith, le-leb}
+use Rattle.std.proofs.Common.{◌≡◌, ℕ, ◌≤◌, true, leb, List, [], ◌∷◌, length, vec_items, sym, arith, le-leb}
 use Rattle.store_laws.specs.declared.Alteration.{Alteration}
 use Rattle.script.specs.CardSections.{last_after}
 use Rattle.script.proofs.card.Card.rises_to.Goals as goal

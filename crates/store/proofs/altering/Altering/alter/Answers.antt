@@ -1,4 +1,4 @@
-use mathlib.Core.Path.{◌≡◌, sym, ap, ◌∙◌}
+use mathlib.Core.Path.{sym, ◌∙◌}
 use native.Mathlib.Omega.{arith}
 use Rattle.store_laws.proofs.AlteringKeeps.{due_none, due_now, due_later}
 use Rattle.store.proofs.altering.Altering.alter.Goals as goal
