@@ -28,6 +28,7 @@ pub fn perform_all<P: Performs>(part: &mut P, calls: &[P::Call], all: &mut Vec<P
 {
     let room = all.capacity().saturating_sub(all.len());
     for i in 0..calls.len().min(room) {
-        all.push_reserved(part.perform(calls[i]));
+        let call = calls[i];
+        all.push_reserved(part.perform(call));
     }
 }

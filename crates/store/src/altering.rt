@@ -1,5 +1,5 @@
 // A store in the hands of somebody who alters its cells.
-ghost use Rattle.std.specs.Prelude.{◌≡◌, leb};
+ghost use Rattle.std.specs.Prelude.{◌≡◌, nat_le};
 ghost use Rattle.store_laws.specs.AlteringMachine.{altering, due};
 ghost use Rattle.store_laws.proofs.AlteringKeeps.{altering_keeps};
 
@@ -27,7 +27,7 @@ impl<'a, S: Store> Altering<'a, S> {
     }
 
     fn is_due(&self, first: Alteration) -> bool
-        ensures { result ≡ leb first.after self.now.count }
+        ensures { result ≡ nat_le first.after self.now.count }
     {
         first.after <= self.count
     }
