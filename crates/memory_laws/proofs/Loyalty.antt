@@ -55,7 +55,7 @@ module _ (m : Meaning) (keeps : Keeps m) {T V : Type 0} (l : T → Tallying V) w
         rw (fetch_is past) (rw e)
 
   module _ (laws : (t : T) → Laws (l t)) where
-    module _ (g : ℕ) (xs : List ℕ) (s : State) (n-is : length xs ≡ s.size) (past : (a : ℕ) → a < s.size → stamp_of s.width (get_or xs a 0) ≤ s.clock) where
+    module _ (g : ℕ) (xs : List ℕ) (s : State) (n_is : length xs ≡ s.size) (past : (a : ℕ) → a < s.size → stamp_of s.width (get_or xs a 0) ≤ s.clock) where
       -- the store after the sweep's first k cells, with the words ys
       record Done (k : ℕ) (σ : m.State) (ys : List ℕ) : Type 0 where
         holds : Holds m (s.width + 20) g ys σ
@@ -79,12 +79,12 @@ module _ (m : Meaning) (keeps : Keeps m) {T V : Type 0} (l : T → Tallying V) w
           let fits : v < 2 ^ (s.width + 20) = value_below s.width v below in
           let σ'' = (m.write σ' k v).1 in
           let zs : List ℕ = set ys k v in
-          let at-k : get_or zs k 0 ≡ v = get_or-set_same ys k v 0 in_ys in
+          let at_k : get_or zs k 0 ≡ v = get_or-set_same ys k v 0 in_ys in
           let same : y ≡ get_or xs k 0 = d.later k (omega arith) in
           let early : stamp_of s.width y ≤ s.clock = rw same (past k lt) in
           let step = ap (λ (o : Outcome Fault V State). and_then o (renewed (plain m) l k)) d.is ∙ renewed_is g ys t d.holds k in_ys (with_records L L.start ys k) early in
           let fresh : L.add (with_records L L.start ys k) (record_of k v) ≡ with_records L L.start zs (suc k) =
-          added L (laws s.rule) k (sym (records_past L (laws s.rule) L.start ys k v k (omega arith))) (sym at-k) in
+          added L (laws s.rule) k (sym (records_past L (laws s.rule) L.start ys k v k (omega arith))) (sym at_k) in
           let taken : L.add (with_records L s.read xs k) (record_of k y) ≡ with_records L s.read xs (suc k) =
           added L (laws s.rule) k refl same in (
             σ'',
@@ -93,7 +93,7 @@ module _ (m : Meaning) (keeps : Keeps m) {T V : Type 0} (l : T → Tallying V) w
               holds = write_holds m keeps (s.width + 20) g ys σ' d' k in_ys v fits;
               same_long = length-set ys k v ∙ d.same_long;
               later = λ j le. get_or-set_other ys k j v 0 (omega arith) ∙ d.later j (omega arith);
-              small = λ j ltj. ⊎_elim (λ (e : j ≡ k). rw (e, at-k) below) (λ (ne : j ≡ k → ⊥). rw (get_or-set_other ys k j v 0 ne) (d.small j (omega arith))) (cases_eq j k);
+              small = λ j ltj. ⊎_elim (λ (e : j ≡ k). rw (e, at_k) below) (λ (ne : j ≡ k → ⊥). rw (get_or-set_other ys k j v 0 ne) (d.small j (omega arith))) (cases_eq j k);
               values = map-set_same (value_of s.width) ys k v 0 (mod-mod y (2 ^ s.width)) ∙ d.values;
               is = step ∙ both (λ u r. (Ok u, at_read (at_store s σ'') r)) fresh taken;
             },
@@ -101,7 +101,7 @@ module _ (m : Meaning) (keeps : Keeps m) {T V : Type 0} (l : T → Tallying V) w
 
       swept_is : Holds m (s.width + 20) g xs s.store → (k : ℕ) → k ≤ s.size → (σ : m.State) × (ys : List ℕ) × Done k σ ys
       unfolding up_to with_records
-      swept_is d zero le = (s.store, xs, record { holds = d; same_long = n-is; later = λ j _. refl; small = λ j lt. absurd (omega arith); values = refl; is = refl })
+      swept_is d zero le = (s.store, xs, record { holds = d; same_long = n_is; later = λ j _. refl; small = λ j lt. absurd (omega arith); values = refl; is = refl })
       swept_is d (suc k) le = let p = swept_is d k (omega arith) in done_more k p.0 p.1 (omega arith) p.2
 
     -- t is loyal, of the size of s, and holds the values xs
@@ -160,16 +160,16 @@ module _ (m : Meaning) (keeps : Keeps m) {T V : Type 0} (l : T → Tallying V) w
         let σ' = (m.read s.store a).1 in
         let d = words_held s h in
         let d' = read_holds m keeps (w + 20) g xs s.store d a in
-        let in-xs : a < length xs = rw (long s h) lt in
+        let in_xs : a < length xs = rw (long s h) lt in
         let word : ℕ = word_of w (c + 1) v in
         let fits : word < 2 ^ (w + 20) = word_of_below w (c + 1) v (omega arith) small in
         let σ'' = (m.write σ' a word).1 in
-        let d'' = write_holds m keeps (w + 20) g xs σ' d' a in-xs word fits in
+        let d'' = write_holds m keeps (w + 20) g xs σ' d' a in_xs word fits in
         let stamp : stamp_of w word ≡ c + 1 = div-mul-add (c + 1) (2 ^ w) v small in
         let low : value_of w word ≡ v = mod-mul-add (c + 1) (2 ^ w) v small in
         let t : State = at_written (at_store (at_clock (at_read s (L.add s.read (record_of a x))) (c + 1)) σ'') (L.add s.written (record_of a word)) in (
           t,
-          rw (fetch_is g xs s d a in-xs (h.stamps a lt)) (rw (e) (rw (write_is m keeps (w + 20) g xs σ' d' a in-xs word fits))),
+          rw (fetch_is g xs s d a in_xs (h.stamps a lt)) (rw (e) (rw (write_is m keeps (w + 20) g xs σ' d' a in_xs word fits))),
           record {
             holds = record {
               loyal = record {
@@ -180,9 +180,9 @@ module _ (m : Meaning) (keeps : Keeps m) {T V : Type 0} (l : T → Tallying V) w
                 size_is = size_is m keeps (w + 20) g (set xs a word) σ'' d'' ∙ length-set xs a word ∙ long s h;
                 width_is = d''.width_is;
                 stamps = λ j ltj. rw d''.cells_are (⊎_elim
-                    (λ (q : j ≡ a). rw (q, get_or-set_same xs a word 0 in-xs, stamp) (omega arith))
+                    (λ (q : j ≡ a). rw (q, get_or-set_same xs a word 0 in_xs, stamp) (omega arith))
                     (λ (ne : j ≡ a → ⊥). rw (get_or-set_other xs a j word 0 ne) (let b = h.stamps j ltj in omega arith)) (cases_eq j a));
-                tallied = rw d''.cells_are (records_exchanged L (laws s.rule) s.read s.written xs a word s.size lt in-xs h.tallied);
+                tallied = rw d''.cells_are (records_exchanged L (laws s.rule) s.read s.written xs a word s.size lt in_xs h.tallied);
               };
               cells_are = ap (map (value_of w)) d''.cells_are ∙ map-set (value_of w) xs a word ∙ ap (set ((checked m l).cells s) a) low;
               width_is = refl;

@@ -38,16 +38,16 @@ module _ (m : Meaning) (keeps : Keeps m) {T V : Type 0} (l : T → Tallying V) (
         let fits : 0 < 2 ^ (w + 20) = pow_pos (w + 20) in
         let zs : List ℕ = set ys k 0 in
         let σ' = (m.write σ k 0).1 in
-        let at-k : get_or zs k 0 ≡ 0 = get_or-set_same ys k 0 0 in_ys in
+        let at_k : get_or zs k 0 ≡ 0 = get_or-set_same ys k 0 0 in_ys in
         let s : Mem (plain m) l = at_written (blank (plain m) l t n w σ) (with_records L L.start ys k) in
         let written : L.add (with_records L L.start ys k) (record_of k 0) ≡ with_records L L.start zs (suc k) =
-        added L (laws t) k (sym (records_past L (laws t) L.start ys k 0 k (omega arith))) (sym at-k) in (
+        added L (laws t) k (sym (records_past L (laws t) L.start ys k 0 k (omega arith))) (sym at_k) in (
           σ',
           zs,
           record {
             holds = write_holds m keeps (w + 20) g ys σ d.holds k in_ys 0 fits;
             long = length-set ys k 0 ∙ d.long;
-            empty = λ j ltj. ⊎_elim (λ (q : j ≡ k). rw (q, at-k)) (λ (ne : j ≡ k → ⊥). get_or-set_other ys k j 0 0 ne ∙ d.empty j (omega arith)) (cases_eq j k);
+            empty = λ j ltj. ⊎_elim (λ (q : j ≡ k). rw (q, at_k)) (λ (ne : j ≡ k → ⊥). get_or-set_other ys k j 0 0 ne ∙ d.empty j (omega arith)) (cases_eq j k);
             is = ap (λ (o : Outcome Fault (Unit {0}) (Mem (plain m) l)). and_then o (λ _ s'. put (plain m) l k 0 s')) d.is ∙ put_is m keeps l g ys s d.holds k in_ys 0 fits
                 ∙ ap (λ v. (Ok tt, at_written (blank (plain m) l t n w σ') v)) written;
           },
@@ -69,8 +69,8 @@ module _ (m : Meaning) (keeps : Keeps m) {T V : Type 0} (l : T → Tallying V) (
       let s : Mem (plain m) l = at_written (blank (plain m) l t n w p.0) (with_records (l t) (l t).start ys n) in
       let all : made m l σ t ≡ s = rw fit (ap (λ o. (settled at_broken o).1) d.is) in
       let zeros : map (value_of w) ys ≡ replicate n 0 = ext_get_or 0 _ _ (length-map ys (value_of w) ∙ d.long ∙ sym (length-replicate {A = ℕ} n 0))
-      (λ i lt. let i-in : i < n = omega (arith, length-map ys (value_of w), d.long) in
-      value_at w ys i ∙ ap (value_of w) (d.empty i i-in) ∙ zero-mod (2 ^ w) ∙ sym (get_or-replicate {A = ℕ} n i 0 0 i-in)) in
+      (λ i lt. let i_in : i < n = omega (arith, length-map ys (value_of w), d.long) in
+      value_at w ys i ∙ ap (value_of w) (d.empty i i_in) ∙ zero-mod (2 ^ w) ∙ sym (get_or-replicate {A = ℕ} n i 0 0 i_in)) in
       rw all (record {
         holds = record {
           loyal = record {

@@ -365,7 +365,7 @@ module _ (m : Meaning) {T V : Type 0} (l : T → Tallying V) where
         let u : Touch = record { cell = k; got = x; put = y } in
         let L = l t in
         let small : value x < 2 ^ w = mod_below x (2 ^ w) (pow_pos w) in
-        let zero-stamp : stamp y ≡ 0 = ap stamp ey ∙ div-eq_of_lt small in
+        let zero_stamp : stamp y ≡ 0 = ap stamp ey ∙ div-eq_of_lt small in
         let same : value y ≡ value x = ap value ey ∙ mod-eq_of_lt small in
         let yl : y < 2 ^ 48 = word_low w y narrow (value_below w y (rw ey small)) in
         record {
@@ -381,7 +381,7 @@ module _ (m : Meaning) {T V : Type 0} (l : T → Tallying V) where
               ∙ ap (λ (xs : List Event). flat n h ++ (sweep_begins ∷ xs)) (sym (pairs_append sw (u ∷ [])));
           within = within_append n sw (u ∷ []) i.within (lt, word_low w x narrow low, yl, tt);
           covers = sweeps_push 0 k sw u i.covers refl;
-          renews = renews_push stamp value sw u i.renews zero-stamp same;
+          renews = renews_push stamp value sw u i.renews zero_stamp same;
         }
       where
         longer : (xs ys : List Event) (p q : Event) → ((xs ++ ys) ++ p ∷ []) ++ q ∷ [] ≡ xs ++ (ys ++ p ∷ q ∷ [])
@@ -480,13 +480,13 @@ module _ (m : Meaning) {T V : Type 0} (l : T → Tallying V) where
       pub held : Held (push before touch) s₁
 
     turn_is : (h h₁ : Hist) (s : W) (a : ℕ) (new : Option ℕ) (v : ℕ) (s₁ : W) → May h h₁ → Held h₁ s → s.clock < clock_end → a < n → ((x : ℕ) → x < 2 ^ w → unwrap_or new x < 2 ^ w) → turn (watched m) l a new s ≡ (Ok v, s₁) → Visited h a new v s₁
-    turn_is h h₁ s a new v s₁ may i lt la narrow-new e =
+    turn_is h h₁ s a new v s₁ may i lt la narrow_new e =
         let k = turned_is s a new v s₁ e in
         let wi = i.width_is in
         let y = word_of s.width (s.clock + 1) v in
         let u : Touch = record { cell = a; got = k.word; put = y } in
         let got : unwrap_or new (value k.word) ≡ v = ap (λ (d : ℕ). unwrap_or new (value_of d k.word)) (sym wi) ∙ k.value_is in
-        let vl : v < 2 ^ w = let q = narrow-new (value k.word) (mod_below k.word (2 ^ w) (pow_pos w)) in omega (arith, q, got) in
+        let vl : v < 2 ^ w = let q = narrow_new (value k.word) (mod_below k.word (2 ^ w) (pow_pos w)) in omega (arith, q, got) in
         let yw : y ≡ word_of w (s.clock + 1) v = ap (λ (d : ℕ). word_of d (s.clock + 1) v) wi in
         let ci = i.clock_is in
         let fair : Fair stamp n (length h₁.own) u = record {
@@ -513,17 +513,17 @@ module _ (m : Meaning) {T V : Type 0} (l : T → Tallying V) where
 
     came : (h h₁ : Hist) (s : W) (a : ℕ) (new : Option ℕ) → May h h₁ → (h₁ ≡ h) ⊎ ((sw : List Touch) × (h₁ ≡ close h sw)) → Held h₁ s → s.clock < clock_end → a < n → ((x : ℕ) → x < 2 ^ w → unwrap_or new x < 2 ^ w) →
         Came h a new (turn (watched m) l a new s).0 (turn (watched m) l a new s).1
-    came h h₁ s a new may one i lt la narrow-new = go (turn (watched m) l a new s).0 (turn (watched m) l a new s).1 refl
+    came h h₁ s a new may one i lt la narrow_new = go (turn (watched m) l a new s).0 (turn (watched m) l a new s).1 refl
       where
         go : (r : Result ℕ Fault) (s₁ : W) → ◌≡◌ {A = Outcome Fault ℕ W} (turn (watched m) l a new s) (r, s₁) → Came h a new r s₁
-        go (Ok v) s₁ e = visits v s₁ (turn_is h h₁ s a new v s₁ may i lt la narrow-new e)
+        go (Ok v) s₁ e = visits v s₁ (turn_is h h₁ s a new v s₁ may i lt la narrow_new e)
         go (Err f) s₁ e = fails f s₁ h₁ one (grown_trail h₁ s s₁ i (subst (λ (o : Outcome Fault ℕ W). Grows s o.1) e (grows_turn a new s)))
 
     pub visit_is : (h : Hist) (s : W) (a : ℕ) (new : Option ℕ) → Held h s → a < n → ((x : ℕ) → x < 2 ^ w → unwrap_or new x < 2 ^ w) → Came h a new (visit (watched m) l a new s).0 (visit (watched m) l a new s).1
-    visit_is h s a new i la narrow-new = go (eqb s.clock clock_end) refl
+    visit_is h s a new i la narrow_new = go (eqb s.clock clock_end) refl
       where
         swept_first : {r : Result (Unit {0}) Fault} {s₁ : W} → Ended h r s₁ → Came h a new (and_then (r, s₁) (turned (watched m) l a new)).0 (and_then (r, s₁) (turned (watched m) l a new)).1
-        swept_first (passes s₁ k) = came h (close h k.touched) s₁ a new (sweeps_first h k.touched k.faultless) (inr (k.touched, refl)) k.held (omega (arith, k.at_zero)) la narrow-new
+        swept_first (passes s₁ k) = came h (close h k.touched) s₁ a new (sweeps_first h k.touched k.faultless) (inr (k.touched, refl)) k.held (omega (arith, k.at_zero)) la narrow_new
         swept_first (fails f s₁ h₁ one tr) = fails f s₁ h₁ one tr
 
         go : (p : Bool) → eqb s.clock clock_end ≡ p →
@@ -532,4 +532,4 @@ module _ (m : Meaning) {T V : Type 0} (l : T → Tallying V) where
         go true q = swept_first (sweep_is h s i)
         go false q =
             let ne = eqb-false s.clock clock_end q in
-            came h h s a new (stays h) (inl refl) i (omega (arith, ne, i.in_time)) la narrow-new
+            came h h s a new (stays h) (inl refl) i (omega (arith, ne, i.in_time)) la narrow_new

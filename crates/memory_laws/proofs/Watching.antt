@@ -90,7 +90,7 @@ module _ (m : Meaning) {T V : Type 0} (l : T → Tallying V) (laws : (t : T) →
     sweeping_did (fails f s₁ h₁ one tr) = did_break Sweep f (at_broken f s₁) h₁ one (trail_on h₁ s₁ f tr) refl
 
     declining : (c : Call) (f : Fault) → (c ≡ Sweep → ⊥) → ((xs : List ℕ) → ideal_words n w xs (c ∷ []) ≡ xs) → Did h c (refused s.broken f) s
-    declining c f no-sweep e = subst (λ (a : Answer). Did h c a s) (sym (refused_none s.broken f i.sound)) (did_decline c f s i no-sweep e)
+    declining c f no_sweep e = subst (λ (a : Answer). Did h c a s) (sym (refused_none s.broken f i.sound)) (did_decline c f s i no_sweep e)
 
     open_told : {A : Type 0} (g : A → Answer) (o o' : Outcome Fault A W) → o ≡ o' → told g (unless_broken s.broken s o) ≡ told g o'
     open_told g o o' e = ap (told g) (unbroken_is s.broken s o i.sound ∙ e)
@@ -179,9 +179,9 @@ module _ (m : Meaning) {T V : Type 0} (l : T → Tallying V) (laws : (t : T) →
       ap (λ (g : ℕ → ℕ). val (g b)) q.2
       ∙ elim (cases_eq b a) [
         | inl p ↦
-            let in-xs : a < length xs = omega arith in
+            let in_xs : a < length xs = omega arith in
             ap (λ (c : ℕ). val (update f c u.put b)) k.cell_is ∙ ap (λ (c : ℕ). val (update f a u.put c)) p ∙ ap val (update_same f a u.put) ∙ k.put_value
-            ∙ sym (get_or-set_same xs a v 0 in-xs) ∙ ap (λ (c : ℕ). get_or (set xs a v) c 0) (sym p) ∙ ap (λ (zs : List ℕ). get_or zs b 0) (sym (is z))
+            ∙ sym (get_or-set_same xs a v 0 in_xs) ∙ ap (λ (c : ℕ). get_or (set xs a v) c 0) (sym p) ∙ ap (λ (zs : List ℕ). get_or zs b 0) (sym (is z))
         | inr ne ↦
             ap (λ (c : ℕ). val (update f c u.put b)) k.cell_is ∙ ap val (update_other f a u.put b ne) ∙ noted_may xs k.may note q.0 b lb
             ∙ sym (get_or-set_other xs a b v 0 ne) ∙ ap (λ (zs : List ℕ). get_or zs b 0) (sym (is z))
@@ -228,7 +228,7 @@ module _ (m : Meaning) {T V : Type 0} (l : T → Tallying V) (laws : (t : T) →
       (read_notes h a v s₁ xs la len k note) len
   step h xs note len (did_sweep s₁ k) =
       well (close h k.touched) (later_close h k.touched) k.held (noted_close _ _ n xs h k.touched k.faultless.renews note) len
-  step h xs note len (did_decline c f s₁ i no-sweep e) = subst (λ (ys : List ℕ). Reached h ys s₁) (sym (e xs)) (well h (later_refl h) i note len)
+  step h xs note len (did_decline c f s₁ i no_sweep e) = subst (λ (ys : List ℕ). Reached h ys s₁) (sym (e xs)) (well h (later_refl h) i note len)
   step h xs note len (did_break c f s₁ h₁ one tr b) = ill f h₁ b (later_one h h₁ one) tr
 
   pub reach : (cs : List Call) (s : W) (h : Hist) (xs : List ℕ) → Holding h s → Notes xs h → length xs ≡ n → Reached h (ideal_words n w xs cs) (after (watched m) l cs s)

@@ -73,13 +73,13 @@ module _ (m : Meaning) {T V : Type 0} (l : T → Tallying V) (laws : (t : T) →
         (rw (← ea) la, subst (λ (x : ℕ). Visited m l laws n w t narrow h x None v s₁) ea (subst (λ (x : ℕ). Visited m l laws n w t narrow h a' None x s₁) ev k))
     read_did (done_write a' v' s₁ la lv k) a v p q = let z : ◌≡◌ {A = ℕ} 0 1 = cc in absurd (omega arith)
     read_did (did_sweep s₁ k) a v p q = let z : ◌≡◌ {A = ℕ} 0 1 = cc in absurd (omega arith)
-    read_did (did_decline c f s₁ i no-sweep e) a v p q = let z : ◌≡◌ {A = ℕ} 0 1 = cc in absurd (omega arith)
+    read_did (did_decline c f s₁ i no_sweep e) a v p q = let z : ◌≡◌ {A = ℕ} 0 1 = cc in absurd (omega arith)
     read_did (did_break c f s₁ h₁ one tr b) a v p q = let z : ◌≡◌ {A = ℕ} 0 1 = cc in absurd (omega arith)
 
     sweep_did : {h : Hist} {c : Call} {r : Answer} {s₁ : W} → Did m l laws n w t narrow h c r s₁ → c ≡ Sweep → Swept m l laws n w t narrow h s₁ ⊎ ((f : Fault) × (r ≡ Failed f))
     sweep_did (did_sweep s₁ k) p = inl k
     sweep_did (did_break c f s₁ h₁ one tr b) p = inr (f, refl)
-    sweep_did (did_decline c f s₁ i no-sweep e) p = absurd (no-sweep p)
+    sweep_did (did_decline c f s₁ i no_sweep e) p = absurd (no_sweep p)
     sweep_did (done_read a v s₁ la k) p = let z : ◌≡◌ {A = ℕ} 0 1 = cc in absurd (omega arith)
     sweep_did (done_write a v s₁ la lv k) p = let z : ◌≡◌ {A = ℕ} 0 1 = cc in absurd (omega arith)
 
@@ -87,7 +87,7 @@ module _ (m : Meaning) {T V : Type 0} (l : T → Tallying V) (laws : (t : T) →
     accepted_did (done_read a v s₁ la k) ok = (push k.before k.touch, k.held)
     accepted_did (done_write a v s₁ la lv k) ok = (push k.before k.touch, k.held)
     accepted_did {h} (did_sweep s₁ k) ok = (close h k.touched, k.held)
-    accepted_did (did_decline c f s₁ i no-sweep e) ok = absurd ok
+    accepted_did (did_decline c f s₁ i no_sweep e) ok = absurd ok
     accepted_did (did_break c f s₁ h₁ one tr b) ok = absurd ok
 
     -- no first k epochs of an unbroken memory have exactly one false word
@@ -153,8 +153,8 @@ module _ (m : Meaning) {T V : Type 0} (l : T → Tallying V) (laws : (t : T) →
           (λ x lx. subst (λ (bs : List _). Same (get_or bs x no_bags).got (get_or bs x no_bags).put) then (same x (omega arith)).1) in
           let none : stale zeros (touches (take (suc (length h₂.past)) h₃.past)) ≡ 0 =
           offline_from _ n zeros (made_records 0 n) (take (suc (length h₂.past)) h₃.past) low (made_same n) (each_take _ h₃.past (suc (length h₂.past)) r.2.past) agree in
-          let true-so-far : stale zeros (all h₂) ≡ 0 = omega (arith, prefix_stale zeros h₂ h₃ r.1 more, none) in
-          (la, read_ideal m l laws n w t narrow h₁ a v s₁ (ideal_at i) la k note true-so-far)
+          let true_so_far : stale zeros (all h₂) ≡ 0 = omega (arith, prefix_stale zeros h₂ h₃ r.1 more, none) in
+          (la, read_ideal m l laws n w t narrow h₁ a v s₁ (ideal_at i) la k note true_so_far)
 
       lying : (i : ℕ) → i < length calls → get_or calls i Sweep ≡ Sweep → misread (events (at (suc i))) ≡ 1 → Reached m l laws n w t narrow fresh (ideal_at i) (at i) →
           (f : Fault) × (get_or (answers (watched m) l calls s) i Passed ≡ Failed f)

@@ -11,7 +11,7 @@ use Rattle.memory_laws.proofs.CheckedKeeps.{checked_keeps}
 use Rattle.heap_laws.specs.Cells.{room}
 use Rattle.heap_laws.specs.HeapMachine as heaps
 use Rattle.heap_laws.proofs.HeapKeeps.{heap_keeps}
-use Rattle.queue_laws.specs.declared.call.Call as queue-calls
+use Rattle.queue_laws.specs.declared.call.Call as queue_calls
 use Rattle.queue_laws.specs.CheckedQueue as queues
 use Rattle.queue_laws.specs.QueueRuns.{CanGive}
 use Rattle.queue_laws.specs.QueuePromise as promises
@@ -36,7 +36,7 @@ module _ (m : Meaning) (keeps : Keeps m) {T V : Type 0} (l : T → Tallying V) (
   abbrev lower : QueueMeaning
   lower = queues.checked tree before
 
-  pub ideal_on_queues : (s : m.State) (x : Mem (plain m) l) (y : heaps.Heap (Mem (plain m) l)) (z : lower.State) (tickets : ℕ) (cs : List queue-calls.Call) →
+  pub ideal_on_queues : (s : m.State) (x : Mem (plain m) l) (y : heaps.Heap (Mem (plain m) l)) (z : lower.State) (tickets : ℕ) (cs : List queue_calls.Call) →
       StartsLoyal m l s x → heaps.StartsLoyal cells before x y → z ≡ queues.made tree before tickets y → queues.StartsLoyal tree before tickets y z → promises.Promise lower before tickets z cs →
       m.loyal s → m.width s ≡ 48 → 1 ≤ tickets → tickets ≤ room (m.size s) 28 →
       CanGive before (min 255 (min 255 (min 255 (min 255 (m.height s + 1) + 1) + 1) + 1)) tickets nothing_waits cs (promises.all_answers lower before tickets z cs)
@@ -51,7 +51,7 @@ module _ (m : Meaning) (keeps : Keeps m) {T V : Type 0} (l : T → Tallying V) (
       let loyal = check.where_empty e.loyal fits e.entries_are in
       let below : z.below ≡ y = ap (λ (c : lower.State). c.below) is in
       let capacity : z.capacity ≡ tickets = ap (λ (c : lower.State). c.capacity) is ∙ fitting_is tree before (heap_keeps cells (checked_keeps m keeps l laws) before order) tickets y fits in
-      let high-up : lower.height z ≡ min 255 (min 255 (min 255 (m.height s + 1) + 1) + 1) =
+      let high_up : lower.height z ≡ min 255 (min 255 (min 255 (m.height s + 1) + 1) + 1) =
       ap (λ (t : tree.State). min 255 (tree.height t + 1)) below ∙ ap (λ (g : ℕ). min 255 (g + 1)) (e.same_height ∙ ap (λ (g : ℕ). min 255 (g + 1)) d.height_is) in
-      subst (λ (g : ℕ). CanGive before (min 255 (g + 1)) tickets nothing_waits cs (promises.all_answers lower before tickets z cs)) high-up
+      subst (λ (g : ℕ). CanGive before (min 255 (g + 1)) tickets nothing_waits cs (promises.all_answers lower before tickets z cs)) high_up
       (promise.no_alarm loyal (record { capacity = (low, omega arith); capacity_below = omega arith }) (ap tree.entries below ∙ e.entries_are))

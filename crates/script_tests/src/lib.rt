@@ -32,7 +32,7 @@ mod tests {
             Some(Section::Card(card)) => {
                 assert_eq!(rt; card.calls.as_slice().len(), calls, "{}", script);
                 Ok(())
-            },
+            }
             _ => Err(Fail::new(script)),
         }
     }

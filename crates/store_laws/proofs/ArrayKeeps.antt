@@ -7,9 +7,9 @@ use Rattle.store_laws.specs.ArrayMachine.{Words, array_meaning, array_size}
 
 below_set : (xs : List ℕ) (i v k n : ℕ) → v < n → ((a : ℕ) → a < length xs → get_or xs a 0 < n) → k < length (set xs i v) → get_or (set xs i v) k 0 < n
 below_set xs i v k n lv h lt =
-    let in-xs : k < length xs = omega (arith, length-set xs i v) in
+    let in_xs : k < length xs = omega (arith, length-set xs i v) in
     ⊎_elim (λ (e : k ≡ i). let here : i < length xs = omega arith in rw (e, get_or-set_same) lv)
-    (λ (ne : k ≡ i → ⊥). rw get_or-set_other (h k in-xs)) (cases_eq k i)
+    (λ (ne : k ≡ i → ⊥). rw get_or-set_other (h k in_xs)) (cases_eq k i)
 
 abbrev at_words : Words → List ℕ → Words
 at_words s xs = record { words = xs; wide = s.wide }
