@@ -2,7 +2,7 @@
 ghost use Rattle.std.specs.Prelude.{◌≡◌, ◌+◌, ◌-◌, ◌*◌, ◌<◌, ◌≤◌, IfOk};
 ghost use Rattle.parts.specs.Queues.{most_tickets};
 ghost use Rattle.heap_laws.specs.Cells.{parent as parent_of, left_child, right_child};
-ghost use Rattle.heap_laws.specs.HeapMachine.{rising, first_child, sinking, way as WayOf, seating};
+ghost use Rattle.heap_laws.specs.HeapMachine.{rising, first_child, sinking, way as way_of, seating};
 ghost use Rattle.heap.specs.View.{Does};
 
 use super::cells::{key_at, move_entry, place};
@@ -114,7 +114,7 @@ fn way<S: Store, O: Order>(
     from: u64,
 ) -> Result<u64, QueueFault>
     requires { (capacity ≤ most_tickets) × ((count ≤ most_tickets) × (from < count)) }
-    ensures does { Does S.Store.state store.old store.new result (WayOf S.Store.meaning O.Order.before capacity count key from) }
+    ensures does { Does S.Store.state store.old store.new result (way_of S.Store.meaning O.Order.before capacity count key from) }
     ensures within { IfOk result (λ e. e < count) }
 {
     let risen = rise(store, order, capacity, key, from)?;

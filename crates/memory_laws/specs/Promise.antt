@@ -1,5 +1,5 @@
 -- What is promised of every list of calls on a checked memory just made, over any store.
-use Rattle.std.specs.Prelude.{◌≡◌, ℕ, suc, ◌+◌, ◌-◌, ◌<◌, ◌≤◌, min, cond, List, [], ◌∷◌, ◌++◌, length, get_or, take, replicate, slice_index, slice_index_or}
+use Rattle.std.specs.Prelude.{◌≡◌, ℕ, suc, ◌+◌, ◌-◌, ◌<◌, ◌≤◌, min, cond, List, [], ◌∷◌, ◌++◌, length, take, replicate, slice_index, slice_index_or}
 use Rattle.parts.specs.declared.fault.Fault.{Fault}
 use Rattle.parts.specs.Meaning.{Meaning}
 use Rattle.parts.specs.Tallying.{Tallying}
@@ -39,7 +39,7 @@ module _ (m : Meaning) {T V : Type 0} (l : T → Tallying V) (s : m.State) (t : 
     -- answered what was last written to the cell. The epoch of a reading is the one that is open when its call ends.
     pub offline : (i a v : ℕ) → i < length calls → slice_index_or calls i Sweep ≡ Read a → slice_index_or (all_answers calls) i Passed ≡ Value v →
         ((j : ℕ) → j ≤ length (epochs (history (take (suc i) calls))) →
-        (j < length (epochs (history calls))) × Same (get_or (epochs (history calls)) j no_bags).got (get_or (epochs (history calls)) j no_bags).put) →
+        (j < length (epochs (history calls))) × Same (slice_index_or (epochs (history calls)) j no_bags).got (slice_index_or (epochs (history calls)) j no_bags).put) →
         v ≡ slice_index (ideal (take i calls)) a
     -- One lie shows: a sweep up to whose end exactly one word read was not the one last written to its cell does not pass.
     pub one_lie : (i : ℕ) → i < length calls → slice_index_or calls i Sweep ≡ Sweep → misread (history (take (suc i) calls)) ≡ 1 →

@@ -2,8 +2,8 @@
 #![tactic(auto)]
 
 ghost use Rattle.std.specs.Prelude.{◌≡◌};
-ghost use Rattle.orders.specs.Ranks.{earlier, rank_of, minute_of, by_fault};
-ghost use Rattle.orders.specs.Laws.{earlier_laws, lexical_laws};
+ghost use Rattle.order_laws.specs.Ranks.{earlier, rank_of, minute_of, by_fault};
+ghost use Rattle.order_laws.proofs.Laws.{earlier_laws, lexical_laws};
 
 use parts::order::Order;
 

@@ -4,7 +4,7 @@ use Rattle.std.proofs.lemmas.Nat.{div-mul-add, mod-mul-add}
 use Rattle.parts.specs.Queues.{found, nothing_waits, with_entry, Named}
 use Rattle.parts.specs.declared.fault.Cause.TheVariants.{KeyBeforeBound}
 use Rattle.parts.specs.Runs.{answers}
-use Rattle.orders.specs.Ranks.{earlier, ranks, rank_of, minute_of, by_fault}
+use Rattle.order_laws.specs.Ranks.{earlier, ranks, rank_of, minute_of, by_fault}
 use Rattle.queue_laws.specs.declared.call.Call.TheVariants.{Put, Remove, Least, Audit}
 use Rattle.queue_laws.specs.declared.call.Answer.TheVariants as answered
 use Rattle.queue_laws.specs.declared.call.Answer.TheVariants.{Entered, Passed, Failed}

@@ -3,7 +3,7 @@ use Rattle.std.specs.Prelude.{◌≡◌, ℕ, ◌+◌, ◌*◌, ◌^◌, ◌<◌
 use Rattle.parts.specs.declared.fault.Cause.TheVariants.{KeyBeforeBound}
 use Rattle.parts.specs.Causes.{number_of}
 use Rattle.parts.specs.Queues.{found, nothing_waits, with_entry, Named}
-use Rattle.orders.specs.Ranks.{earlier, by_fault}
+use Rattle.order_laws.specs.Ranks.{earlier, by_fault}
 use Rattle.queue_laws.specs.declared.call.Call.TheVariants.{Put, Remove, Least, Audit}
 use Rattle.queue_laws.specs.declared.call.Answer.TheVariants as answered
 use Rattle.queue_laws.specs.declared.call.Answer.TheVariants.{Entered, Passed, Failed}

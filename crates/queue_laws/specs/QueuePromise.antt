@@ -1,5 +1,5 @@
 -- What is promised of every list of calls on a checked queue just made, over any queue.
-use Rattle.std.specs.Prelude.{◌≡◌, ℕ, suc, ◌+◌, ◌<◌, min, Bool, true, false, List, length, get_or, take, Some, None, Option, ◌≢◌, slice_index_or}
+use Rattle.std.specs.Prelude.{◌≡◌, ℕ, suc, ◌+◌, ◌<◌, min, Bool, true, false, List, length, take, Some, None, Option, ◌≢◌, slice_index_or}
 use Rattle.parts.specs.declared.fault.Cause.TheVariants.{KeyBeforeBound}
 use Rattle.parts.specs.declared.fault.QueueFault.{QueueFault}
 use Rattle.parts.specs.Queues.{Entries, nothing_waits, found, QueueMeaning}
@@ -31,9 +31,9 @@ module _ (q : QueueMeaning) (before : ℕ → ℕ → Bool) (m : ℕ) (s : q.Sta
 
   -- the call i names a ticket, while the ticket u waits with a key that is before the named one
   pub record PassedOver (calls : List Call) (i u : ℕ) : Type 0 where
-    pub asked : get_or calls i Audit ≡ Least
+    pub asked : slice_index_or calls i Audit ≡ Least
     pub other : ℕ
-    pub named : get_or (all_answers calls) i Passed ≡ Named other
+    pub named : slice_index_or (all_answers calls) i Passed ≡ Named other
     pub named_key : ℕ
     pub named_waits : waits_at calls i other ≡ Some named_key
     pub key : ℕ

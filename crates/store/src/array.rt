@@ -19,7 +19,7 @@ impl<'a> Array<'a> {
     pub fn new(words: &'a mut [u64], width: u32) -> Array<'a>
         ensures wide { result.width ≡ width }
         ensures holds { result.words.now ≡ cond (fit (length words.old) width) (replicate (length words.old) 0) words.old }
-        ensures loyal { fit (length words.entry.now) width ≡ true → array_meaning.loyal (record { words = result.words.now; wide = result.width }) }
+        ensures loyal { fit (length words.old) width ≡ true → array_meaning.loyal (record { words = result.words.now; wide = result.width }) }
     {
         if fits(words.len() as u64, width) {
             words.fill(0);

@@ -3,7 +3,7 @@ use Rattle.std.specs.Prelude.{◌≡◌, ℕ, true, false, ◌&&◌, ◌||◌, �
 use Rattle.std.proofs.Common.{arith}
 use Rattle.std.proofs.lemmas.Bool.Decides.{nat_tests}
 use Rattle.parts.specs.Orders.{OrderLaws}
-use Rattle.orders.specs.Ranks.{earlier, lexical}
+use Rattle.order_laws.specs.Ranks.{earlier, lexical}
 
 pub earlier_laws : OrderLaws earlier
 earlier_laws = record {
