@@ -1,4 +1,4 @@
-use Rattle.std.proofs.Common.{◌≡◌, ℕ, ◌+◌, ◌-◌, ◌≤◌, min, Bool, List, replicate, IfOk, Ok, Err, Result, ap, ◌∙◌, subst, arith, MatchResult}
+use Rattle.std.proofs.Common.{◌≡◌, ℕ, ◌+◌, ◌-◌, ◌≤◌, min, Bool, List, replicate, ap, ◌∙◌, subst, arith}
 use Rattle.std.proofs.lemmas.List.{length-replicate}
 use Rattle.parts.specs.Meaning.{Meaning, Keeps}
 use Rattle.parts.specs.Orders.{OrderLaws}
@@ -16,11 +16,6 @@ use Rattle.queue_laws.specs.CheckedQueue as queues
 use Rattle.queue_laws.specs.QueueRuns.{CanGive}
 use Rattle.queue_laws.specs.QueuePromise as promises
 use Rattle.queue_laws.proofs.QueueKeeps.{fitting_is}
-
--- what is known of a value that was made, whatever is known where none was
-pub made_where : {A F : Type 0} (r : Result A F) (P P' : A → Type 0) (Q : F → Type 0) → MatchResult r P Q → ((a : A) → P a → P' a) → IfOk r P'
-made_where (Ok a) P P' Q h k = k a h
-made_where (Err f) P P' Q h k = tt
 
 room_few : (n w : ℕ) → room n w ≤ most_tickets
 room_few n w = grind (arith, nat_tests)
