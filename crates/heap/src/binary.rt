@@ -5,11 +5,11 @@ ghost use Rattle.heap_laws.specs.HeapMachine.{heap, heap_least, capacity as capa
 ghost use Rattle.heap.specs.View.{view};
 ghost use Rattle.heap_laws.proofs.HeapKeeps.{heap_keeps};
 
-use super::calls;
-use super::cells::{place_cell, room, ticket_at};
-use parts::fault::QueueFault;
+use super::cells::{PLACE, TICKET, cell, height_over, own, read_below, room, senseless};
+use super::entries::{Entries, Entry};
+use parts::fault::{Cause, QueueFault};
 use parts::order::Order;
-use parts::queue::Queue;
+use parts::queue::{KEY_LIMIT, Queue};
 use parts::store::Store;
 
 // The entries stand in the store; the heap itself holds only how many there are.
@@ -52,7 +52,7 @@ impl<S: Store, O: Order> Heap<S, O> {
         if capacity == 0 || self.count == 0 {
             return Ok(None);
         }
-        let ticket = ticket_at(&mut self.store, capacity, 0)?;
+        let ticket = read_below(&mut self.store, cell::<TICKET>(0), capacity)?;
         Ok(Some(ticket))
     }
 
@@ -89,34 +89,71 @@ impl<S: Store, O: Order> Queue for Heap<S, O> {
     }
 
     fn height(&self) -> u8 {
-        self.store.height().saturating_add(1)
+        height_over(&self.store)
     }
 
     fn clear(&mut self) -> Result<(), QueueFault> {
         self.count = 0;
         for ticket in 0..self.tickets() {
-            self.store.write(place_cell(ticket), 0)?;
+            self.store.write(cell::<PLACE>(ticket), 0)?;
         }
         Ok(())
     }
 
     fn put(&mut self, ticket: u64, key: u64) -> Result<(), QueueFault> {
         let capacity = self.tickets();
-        calls::put(
-            &mut self.store,
-            &self.order,
+        if ticket >= capacity {
+            return Err(own(&self.store, Cause::NoSuchTicket, ticket));
+        }
+        if key >= KEY_LIMIT {
+            return Err(own(&self.store, Cause::KeyTooLarge, ticket));
+        }
+        let told = self.store.read(cell::<PLACE>(ticket))?;
+        if told > self.count {
+            return Err(senseless(&self.store));
+        }
+        if told > 0 {
+            return Err(own(&self.store, Cause::TicketInUse, ticket));
+        }
+        if self.count >= capacity {
+            return Err(senseless(&self.store));
+        }
+        let mut entries = Entries {
+            store: &mut self.store,
+            order: &self.order,
             capacity,
-            self.count,
-            ticket,
-            key,
-        )?;
+            count: self.count + 1,
+        };
+        entries.seat(Entry { ticket, key }, self.count)?;
         self.count += 1;
         Ok(())
     }
 
     fn remove(&mut self, ticket: u64) -> Result<(), QueueFault> {
         let capacity = self.tickets();
-        calls::remove(&mut self.store, &self.order, capacity, self.count, ticket)?;
+        if ticket >= capacity {
+            return Err(own(&self.store, Cause::NoSuchTicket, ticket));
+        }
+        let told = self.store.read(cell::<PLACE>(ticket))?;
+        if told == 0 {
+            return Err(own(&self.store, Cause::NotWaiting, ticket));
+        }
+        if told > self.count || self.count > capacity {
+            return Err(senseless(&self.store));
+        }
+        if read_below(&mut self.store, cell::<TICKET>(told - 1), capacity)? != ticket {
+            return Err(senseless(&self.store));
+        }
+        self.store.write(cell::<PLACE>(ticket), 0)?;
+        if told < self.count {
+            let mut rest = Entries {
+                store: &mut self.store,
+                order: &self.order,
+                capacity,
+                count: self.count - 1,
+            };
+            rest.fill(told - 1)?;
+        }
         self.count -= 1;
         Ok(())
     }
