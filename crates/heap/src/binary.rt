@@ -5,8 +5,8 @@ ghost use Rattle.heap_laws.specs.HeapMachine.{heap, heap_least, capacity as capa
 ghost use Rattle.heap.specs.View.{view};
 ghost use Rattle.heap_laws.proofs.HeapKeeps.{heap_keeps};
 
-use super::cells::{PLACE, TICKET, cell, height_over, own, read_below, room, senseless};
-use super::entries::{Entries, Entry};
+use super::cells::{PLACE, cell, height_over, own, room, senseless, ticket_at};
+use super::walk::{Entry, Walk};
 use parts::fault::{Cause, QueueFault};
 use parts::order::Order;
 use parts::queue::{KEY_LIMIT, Queue};
@@ -52,7 +52,7 @@ impl<S: Store, O: Order> Heap<S, O> {
         if capacity == 0 || self.count == 0 {
             return Ok(None);
         }
-        let ticket = read_below(&mut self.store, cell::<TICKET>(0), capacity)?;
+        let ticket = ticket_at(&mut self.store, capacity, 0)?;
         Ok(Some(ticket))
     }
 
@@ -118,13 +118,14 @@ impl<S: Store, O: Order> Queue for Heap<S, O> {
         if self.count >= capacity {
             return Err(senseless(&self.store));
         }
-        let mut entries = Entries {
+        let mut walk = Walk {
             store: &mut self.store,
             order: &self.order,
             capacity,
             count: self.count + 1,
+            hole: self.count,
         };
-        entries.seat(Entry { ticket, key }, self.count)?;
+        walk.seat(Entry { ticket, key })?;
         self.count += 1;
         Ok(())
     }
@@ -141,18 +142,19 @@ impl<S: Store, O: Order> Queue for Heap<S, O> {
         if told > self.count || self.count > capacity {
             return Err(senseless(&self.store));
         }
-        if read_below(&mut self.store, cell::<TICKET>(told - 1), capacity)? != ticket {
+        if ticket_at(&mut self.store, capacity, told - 1)? != ticket {
             return Err(senseless(&self.store));
         }
         self.store.write(cell::<PLACE>(ticket), 0)?;
         if told < self.count {
-            let mut rest = Entries {
+            let mut walk = Walk {
                 store: &mut self.store,
                 order: &self.order,
                 capacity,
                 count: self.count - 1,
+                hole: told - 1,
             };
-            rest.fill(told - 1)?;
+            walk.fill()?;
         }
         self.count -= 1;
         Ok(())

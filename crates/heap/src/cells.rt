@@ -3,10 +3,11 @@ ghost use Rattle.std.specs.Prelude.{◌≡◌, ◌+◌, ◌*◌, ◌<◌, ◌≤
 ghost use Rattle.parts.specs.Queues.{found, most_tickets};
 ghost use Rattle.parts.specs.declared.fault.Cause.TheVariants.{SenselessCell};
 ghost use Rattle.heap_laws.specs.Cells.{entry_cells, room as room_of};
-ghost use Rattle.heap_laws.specs.HeapMachine.{calling, as_ticket};
+ghost use Rattle.heap_laws.specs.HeapMachine.{calling, as_ticket, ticket_at, key_at};
+ghost use Rattle.heap.specs.View.{Does};
 
 use parts::fault::{Cause, Fault, QueueFault};
-use parts::queue::MOST_TICKETS;
+use parts::queue::{KEY_LIMIT, MOST_TICKETS};
 use parts::store::{MOST_BITS, MOST_CELLS, Store};
 
 // How many cells an entry takes, and how many bits a cell needs to hold a key.
@@ -67,9 +68,8 @@ pub(crate) fn senseless<S: Store>(store: &S) -> QueueFault
 }
 
 // What a cell holds: it makes sense below a limit.
-pub(crate) fn read_below<S: Store>(store: &mut S, cell: u64, limit: u64) -> Result<u64, QueueFault>
-    ensures answer { result ≡ (calling S.Store.meaning (S.Store.meaning.read (S.Store.state store.old) cell) (as_ticket S.Store.meaning limit)).0 }
-    ensures leaves { S.Store.state store.new ≡ (calling S.Store.meaning (S.Store.meaning.read (S.Store.state store.old) cell) (as_ticket S.Store.meaning limit)).1 }
+fn read_below<S: Store>(store: &mut S, cell: u64, limit: u64) -> Result<u64, QueueFault>
+    ensures does { Does S.Store.state store.old store.new result (λ s. calling S.Store.meaning (S.Store.meaning.read s cell) (as_ticket S.Store.meaning limit)) }
     ensures below { IfOk result (λ w. w < limit) }
 {
     let word = store.read(cell)?;
@@ -77,4 +77,25 @@ pub(crate) fn read_below<S: Store>(store: &mut S, cell: u64, limit: u64) -> Resu
         return Err(senseless(store));
     }
     Ok(word)
+}
+
+// The ticket of an entry.
+pub(crate) fn ticket_at<S: Store>(
+    store: &mut S,
+    capacity: u64,
+    index: u64,
+) -> Result<u64, QueueFault>
+    requires { index < most_tickets }
+    ensures does { Does S.Store.state store.old store.new result (ticket_at S.Store.meaning capacity index) }
+    ensures below { IfOk result (λ t. t < capacity) }
+{
+    read_below(store, cell::<TICKET>(index), capacity)
+}
+
+// The key of an entry.
+pub(crate) fn key_at<S: Store>(store: &mut S, index: u64) -> Result<u64, QueueFault>
+    requires { index < most_tickets }
+    ensures { Does S.Store.state store.old store.new result (key_at S.Store.meaning index) }
+{
+    read_below(store, cell::<KEY>(index), KEY_LIMIT)
 }

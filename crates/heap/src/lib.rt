@@ -3,4 +3,4 @@
 
 pub mod binary;
 mod cells;
-mod entries;
+mod walk;
