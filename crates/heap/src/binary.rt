@@ -43,19 +43,6 @@ impl<S: Store, O: Order> Heap<S, O> {
         heap
     }
 
-    // The ticket of entry 0.
-    fn first(&mut self) -> Result<Option<u64>, QueueFault>
-        ensures answer { result ≡ (heap_least S.Store.meaning O.Order.before (view S.Store.state self.old)).0 }
-        ensures leaves { view S.Store.state self.new ≡ (heap_least S.Store.meaning O.Order.before (view S.Store.state self.old)).1 }
-    {
-        let capacity = self.tickets();
-        if capacity == 0 || self.count == 0 {
-            return Ok(None);
-        }
-        let ticket = ticket_at(&mut self.store, capacity, 0)?;
-        Ok(Some(ticket))
-    }
-
     // Takes the heap apart, and gives the store back.
     pub fn into_store(self) -> S
     where
@@ -161,6 +148,10 @@ impl<S: Store, O: Order> Queue for Heap<S, O> {
     }
 
     fn least(&mut self) -> Result<Option<u64>, QueueFault> {
-        self.first()
+        let capacity = self.tickets();
+        if capacity == 0 || self.count == 0 {
+            return Ok(None);
+        }
+        ticket_at(&mut self.store, capacity, 0).map(Some)
     }
 }

@@ -39,7 +39,7 @@ pub(crate) fn cell<const PART: u8>(index: u64) -> u64
     requires { index < most_tickets }
     ensures { result ≡ entry_cells * index + PART }
 {
-    ENTRY_CELLS * index + PART as u64
+    ENTRY_CELLS * index + u64::from(PART)
 }
 
 // The height of a heap over the store.
