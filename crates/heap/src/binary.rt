@@ -21,14 +21,6 @@ pub struct Heap<S, O> {
 }
 
 impl<S: Store, O: Order> Heap<S, O> {
-    // The capacity, which the store's size and width give.
-    fn tickets(&self) -> u64
-        ensures value { result ≡ capacity_of S.Store.meaning O.Order.before (view S.Store.state self.now) }
-        ensures few { result ≤ most_tickets }
-    {
-        room(self.store.size(), self.store.width())
-    }
-
     // A heap over the store, which it clears.
     pub fn new(store: S, order: O) -> Self
         ensures outcome { view S.Store.state result ≡ made_over S.Store.meaning O.Order.before (S.Store.state store) }
@@ -71,8 +63,12 @@ impl<S: Store, O: Order> Queue for Heap<S, O> {
         &self.order
     }
 
-    fn capacity(&self) -> u64 {
-        self.tickets()
+    // The store's size and width give it.
+    fn capacity(&self) -> u64
+        ensures value { result ≡ capacity_of S.Store.meaning O.Order.before (view S.Store.state self.now) }
+        ensures few { result ≤ most_tickets }
+    {
+        room(self.store.size(), self.store.width())
     }
 
     fn height(&self) -> u8 {
@@ -81,14 +77,14 @@ impl<S: Store, O: Order> Queue for Heap<S, O> {
 
     fn clear(&mut self) -> Result<(), QueueFault> {
         self.count = 0;
-        for ticket in 0..self.tickets() {
+        for ticket in 0..self.capacity() {
             self.store.write(cell::<PLACE>(ticket), 0)?;
         }
         Ok(())
     }
 
     fn put(&mut self, ticket: u64, key: u64) -> Result<(), QueueFault> {
-        let capacity = self.tickets();
+        let capacity = self.capacity();
         if ticket >= capacity {
             return Err(own(&self.store, Cause::NoSuchTicket, ticket));
         }
@@ -118,7 +114,7 @@ impl<S: Store, O: Order> Queue for Heap<S, O> {
     }
 
     fn remove(&mut self, ticket: u64) -> Result<(), QueueFault> {
-        let capacity = self.tickets();
+        let capacity = self.capacity();
         if ticket >= capacity {
             return Err(own(&self.store, Cause::NoSuchTicket, ticket));
         }
@@ -148,7 +144,7 @@ impl<S: Store, O: Order> Queue for Heap<S, O> {
     }
 
     fn least(&mut self) -> Result<Option<u64>, QueueFault> {
-        let capacity = self.tickets();
+        let capacity = self.capacity();
         if capacity == 0 || self.count == 0 {
             return Ok(None);
         }
