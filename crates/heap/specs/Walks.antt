@@ -2,7 +2,6 @@
 use Rattle.std.specs.Prelude.{◌≡◌, ℕ, Result, Ok, Err}
 use Rattle.parts.specs.declared.fault.QueueFault.{QueueFault}
 use Rattle.parts.specs.Outcomes.{Outcome}
-use Rattle.heap.specs.View.{Does}
 use Rattle.heap.specs.declared.walk.Walk.{Walk}
 
 -- the same store, as it was lent, the same capacity and the same count

@@ -34,7 +34,8 @@ pub(crate) fn room(size: u64, width: u32) -> u64
     }
 }
 
-// One of the cells of an entry.
+// One of the cells of an entry. (The numbers of entries stay plain: a type for those below 1,024 would be made and unmade at each
+// call of this and of the two readers, for the three clauses that it spares.)
 pub(crate) fn cell<const PART: u8>(index: u64) -> u64
     requires { index < most_tickets }
     ensures { result ≡ entry_cells * index + PART }

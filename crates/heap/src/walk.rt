@@ -1,13 +1,14 @@
 // The ways up and down a heap, by which an entry gets to where it belongs.
-ghost use Rattle.std.specs.Prelude.{◌≡◌, ◌+◌, ◌-◌, ◌*◌, ◌<◌, ◌≤◌};
+ghost use Rattle.std.specs.Prelude.{◌≡◌, ◌+◌, ◌-◌, ◌*◌, ◌<◌, ◌≤◌, OnOk, IfOk};
 ghost use Rattle.parts.specs.Queues.{most_tickets};
-ghost use Rattle.heap_laws.specs.Cells.{parent as parent_of, left_child};
+ghost use Rattle.heap_laws.specs.Cells.{parent, left_child};
 
 use super::cells::{KEY, PLACE, TICKET, cell, key_at, ticket_at};
 use parts::fault::QueueFault;
 use parts::order::Order;
 use parts::store::Store;
 
+// A ticket that waits, and its key.
 #[derive(Clone, Copy)]
 pub(crate) struct Entry {
     pub(crate) ticket: u64,
@@ -15,7 +16,7 @@ pub(crate) struct Entry {
     ghost below: { ticket < most_tickets },
 }
 
-// A free place among so many entries of a heap, over a store that is lent for one call.
+// The way of a free place through so many entries, over a store that is lent for one call of the heap.
 #[derive(Drop)]
 pub(crate) struct Walk<'s, 'o, S, O> {
     pub(crate) store: &'s mut S,
@@ -28,17 +29,16 @@ pub(crate) struct Walk<'s, 'o, S, O> {
     ghost free: { hole < count },
 }
 
-fn parent(index: u64) -> u64
-    requires { 0 < index }
-    ensures { result ≡ parent_of index }
-{
-    (index - 1) / 2
-}
-
 impl<S: Store, O: Order> Walk<'_, '_, S, O> {
     ghost use Rattle.heap_laws.specs.HeapMachine.{placing, moving, rising, first_child, sinking, way as way_of, seating, filling};
     ghost use Rattle.heap.specs.Walks.{Leaves, Walks};
-    ghost use Rattle.std.specs.Prelude.{OnOk, IfOk};
+
+    fn parent(&self) -> u64
+        requires { 0 < self.now.hole }
+        ensures { result ≡ parent self.now.hole }
+    {
+        (self.hole - 1) / 2
+    }
 
     fn left_child(&self) -> u64
         ensures { result ≡ left_child self.now.hole }
@@ -69,12 +69,12 @@ impl<S: Store, O: Order> Walk<'_, '_, S, O> {
         Ok(())
     }
 
-    // While a key is before the one above the free place, that entry moves down.
+    // While a key is before the one above the free place, that entry moves down. (No `for` fits: each turn goes to the parent.)
     fn rise(&mut self, key: u64) -> Result<(), QueueFault>
         ensures { Walks S.Store.state self.old self.new result (rising S.Store.meaning O.Order.before self.old.hole self.old.capacity key self.old.hole) }
     {
         while self.hole > 0 {
-            let above = parent(self.hole);
+            let above = self.parent();
             let upper = key_at(self.store, above)?;
             if !self.order.is_before(key, upper) {
                 return Ok(());
@@ -94,18 +94,17 @@ impl<S: Store, O: Order> Walk<'_, '_, S, O> {
         let left = self.left_child();
         let left_key = key_at(self.store, left)?;
         let right = left + 1;
-        if right >= self.count {
-            return Ok((left, left_key));
+        if right < self.count {
+            let right_key = key_at(self.store, right)?;
+            if self.order.is_before(right_key, left_key) {
+                return Ok((right, right_key));
+            }
         }
-        let right_key = key_at(self.store, right)?;
-        if self.order.is_before(right_key, left_key) {
-            Ok((right, right_key))
-        } else {
-            Ok((left, left_key))
-        }
+        Ok((left, left_key))
     }
 
-    // While a child of the free place is before the key, it moves up.
+    // While a child of the free place is before the key, it moves up. (No `for` fits: each turn goes to a child, and to which
+    // shows once both are read.)
     fn sink(&mut self, key: u64) -> Result<(), QueueFault>
         ensures { Walks S.Store.state self.old self.new result (sinking S.Store.meaning O.Order.before (self.old.count - self.old.hole) self.old.capacity self.old.count key self.old.hole) }
     {

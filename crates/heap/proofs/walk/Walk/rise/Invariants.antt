@@ -1,4 +1,4 @@
-use Rattle.std.proofs.Common.{◌≡◌, ◌≤◌, cond, eqb, Ok}
+use Rattle.std.proofs.Common.{◌≡◌, cond, eqb, Ok}
 use Rattle.parts.specs.Outcomes.{and_then}
 use Rattle.heap_laws.specs.Cells.{parent}
 use Rattle.heap_laws.specs.HeapMachine.{key_at, risen, rising}

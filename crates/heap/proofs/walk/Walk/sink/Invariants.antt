@@ -1,4 +1,4 @@
-use Rattle.std.proofs.Common.{◌≡◌, ◌-◌, ◌<◌, cond, ltb, Ok}
+use Rattle.std.proofs.Common.{◌≡◌, ◌-◌, cond, ltb, Ok}
 use Rattle.parts.specs.Outcomes.{and_then}
 use Rattle.heap_laws.specs.Cells.{left_child}
 use Rattle.heap_laws.specs.HeapMachine.{first_child, sunk, sinking}
