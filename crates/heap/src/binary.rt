@@ -5,11 +5,11 @@ ghost use Rattle.heap_laws.specs.HeapMachine.{heap, heap_least, capacity as capa
 ghost use Rattle.heap.specs.View.{view};
 ghost use Rattle.heap_laws.proofs.HeapKeeps.{heap_keeps};
 
-use super::calls;
-use super::cells::{place_cell, room, ticket_at};
-use parts::fault::QueueFault;
+use super::cells::{PLACE, cell, height_over, own, room, senseless, ticket_at};
+use super::walk::{Entry, Walk};
+use parts::fault::{Cause, QueueFault};
 use parts::order::Order;
-use parts::queue::Queue;
+use parts::queue::{KEY_LIMIT, Queue};
 use parts::store::Store;
 
 // The entries stand in the store; the heap itself holds only how many there are.
@@ -21,14 +21,6 @@ pub struct Heap<S, O> {
 }
 
 impl<S: Store, O: Order> Heap<S, O> {
-    // The capacity, which the store's size and width give.
-    fn tickets(&self) -> u64
-        ensures value { result ≡ capacity_of S.Store.meaning O.Order.before (view S.Store.state self.now) }
-        ensures few { result ≤ most_tickets }
-    {
-        room(self.store.size(), self.store.width())
-    }
-
     // A heap over the store, which it clears.
     pub fn new(store: S, order: O) -> Self
         ensures outcome { view S.Store.state result ≡ made_over S.Store.meaning O.Order.before (S.Store.state store) }
@@ -41,19 +33,6 @@ impl<S: Store, O: Order> Heap<S, O> {
         };
         let _ = heap.clear();
         heap
-    }
-
-    // The ticket of entry 0.
-    fn first(&mut self) -> Result<Option<u64>, QueueFault>
-        ensures answer { result ≡ (heap_least S.Store.meaning O.Order.before (view S.Store.state self.old)).0 }
-        ensures leaves { view S.Store.state self.new ≡ (heap_least S.Store.meaning O.Order.before (view S.Store.state self.old)).1 }
-    {
-        let capacity = self.tickets();
-        if capacity == 0 || self.count == 0 {
-            return Ok(None);
-        }
-        let ticket = ticket_at(&mut self.store, capacity, 0)?;
-        Ok(Some(ticket))
     }
 
     // Takes the heap apart, and gives the store back.
@@ -84,44 +63,91 @@ impl<S: Store, O: Order> Queue for Heap<S, O> {
         &self.order
     }
 
-    fn capacity(&self) -> u64 {
-        self.tickets()
+    // The store's size and width give it.
+    fn capacity(&self) -> u64
+        ensures value { result ≡ capacity_of S.Store.meaning O.Order.before (view S.Store.state self.now) }
+        ensures few { result ≤ most_tickets }
+    {
+        room(self.store.size(), self.store.width())
     }
 
     fn height(&self) -> u8 {
-        self.store.height().saturating_add(1)
+        height_over(&self.store)
     }
 
     fn clear(&mut self) -> Result<(), QueueFault> {
         self.count = 0;
-        for ticket in 0..self.tickets() {
-            self.store.write(place_cell(ticket), 0)?;
+        for ticket in 0..self.capacity() {
+            self.store.write(cell::<PLACE>(ticket), 0)?;
         }
         Ok(())
     }
 
     fn put(&mut self, ticket: u64, key: u64) -> Result<(), QueueFault> {
-        let capacity = self.tickets();
-        calls::put(
-            &mut self.store,
-            &self.order,
+        let capacity = self.capacity();
+        if ticket >= capacity {
+            return Err(own(&self.store, Cause::NoSuchTicket, ticket));
+        }
+        if key >= KEY_LIMIT {
+            return Err(own(&self.store, Cause::KeyTooLarge, ticket));
+        }
+        let told = self.store.read(cell::<PLACE>(ticket))?;
+        if told > self.count {
+            return Err(senseless(&self.store));
+        }
+        if told > 0 {
+            return Err(own(&self.store, Cause::TicketInUse, ticket));
+        }
+        if self.count >= capacity {
+            return Err(senseless(&self.store));
+        }
+        let mut walk = Walk {
+            store: &mut self.store,
+            order: &self.order,
             capacity,
-            self.count,
-            ticket,
-            key,
-        )?;
+            count: self.count + 1,
+            hole: self.count,
+        };
+        walk.seat(Entry { ticket, key })?;
         self.count += 1;
         Ok(())
     }
 
     fn remove(&mut self, ticket: u64) -> Result<(), QueueFault> {
-        let capacity = self.tickets();
-        calls::remove(&mut self.store, &self.order, capacity, self.count, ticket)?;
+        let capacity = self.capacity();
+        if ticket >= capacity {
+            return Err(own(&self.store, Cause::NoSuchTicket, ticket));
+        }
+        let told = self.store.read(cell::<PLACE>(ticket))?;
+        if told == 0 {
+            return Err(own(&self.store, Cause::NotWaiting, ticket));
+        }
+        if told > self.count || self.count > capacity {
+            return Err(senseless(&self.store));
+        }
+        if ticket_at(&mut self.store, capacity, told - 1)? != ticket {
+            return Err(senseless(&self.store));
+        }
+        self.store.write(cell::<PLACE>(ticket), 0)?;
+        if told < self.count {
+            let mut walk = Walk {
+                store: &mut self.store,
+                order: &self.order,
+                capacity,
+                count: self.count - 1,
+                hole: told - 1,
+            };
+            walk.fill()?;
+        }
         self.count -= 1;
         Ok(())
     }
 
     fn least(&mut self) -> Result<Option<u64>, QueueFault> {
-        self.first()
+        let capacity = self.capacity();
+        if capacity == 0 || self.count == 0 {
+            return Ok(None);
+        }
+        ticket_at(&mut self.store, capacity, 0).map(Some)
     }
 }

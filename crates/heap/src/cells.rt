@@ -1,9 +1,9 @@
 // The cells of a heap, over any store.
-ghost use Rattle.std.specs.Prelude.{◌≡◌, ◌+◌, ◌<◌, ◌≤◌, min, IfOk};
+ghost use Rattle.std.specs.Prelude.{◌≡◌, ◌+◌, ◌*◌, ◌<◌, ◌≤◌, min, IfOk};
 ghost use Rattle.parts.specs.Queues.{found, most_tickets};
 ghost use Rattle.parts.specs.declared.fault.Cause.TheVariants.{SenselessCell};
-ghost use Rattle.heap_laws.specs.Cells.{ticket_cell, key_cell, place_cell, room as room_of};
-ghost use Rattle.heap_laws.specs.HeapMachine.{ticket_at, key_at, placing, moving};
+ghost use Rattle.heap_laws.specs.Cells.{entry_cells, room as room_of};
+ghost use Rattle.heap_laws.specs.HeapMachine.{calling, as_ticket, ticket_at, key_at};
 ghost use Rattle.heap.specs.View.{Does};
 
 use parts::fault::{Cause, Fault, QueueFault};
@@ -15,37 +15,39 @@ const ENTRY_CELLS: u64 = 3;
 
 const LEAST_BITS: u32 = 28;
 
+// The cells of an entry: that of its ticket, that of its key, and the one that tells where the ticket of the entry's number is.
+pub(crate) const TICKET: u8 = 0;
+
+pub(crate) const KEY: u8 = 1;
+
+pub(crate) const PLACE: u8 = 2;
+
 // The capacity of a heap over so many cells of so many bits.
 pub(crate) fn room(size: u64, width: u32) -> u64
     ensures value { result ≡ room_of size width }
     ensures few { result ≤ most_tickets }
 {
-    if ENTRY_CELLS <= size && size <= MOST_CELLS && LEAST_BITS <= width && width <= MOST_BITS {
+    if (ENTRY_CELLS..=MOST_CELLS).contains(&size) && (LEAST_BITS..=MOST_BITS).contains(&width) {
         (size / ENTRY_CELLS).min(MOST_TICKETS as u64)
     } else {
         0
     }
 }
 
-fn ticket_cell(index: u64) -> u64
+// One of the cells of an entry. (The numbers of entries stay plain: a type for those below 1,024 would be made and unmade at each
+// call of this and of the two readers, for the three clauses that it spares.)
+pub(crate) fn cell<const PART: u8>(index: u64) -> u64
     requires { index < most_tickets }
-    ensures { result ≡ ticket_cell index }
+    ensures { result ≡ entry_cells * index + PART }
 {
-    ENTRY_CELLS * index
+    ENTRY_CELLS * index + u64::from(PART)
 }
 
-fn key_cell(index: u64) -> u64
-    requires { index < most_tickets }
-    ensures { result ≡ key_cell index }
+// The height of a heap over the store.
+pub(crate) fn height_over<S: Store>(store: &S) -> u8
+    ensures { result ≡ min 255 (S.Store.meaning.height (S.Store.state store.now) + 1) }
 {
-    ENTRY_CELLS * index + 1
-}
-
-pub(crate) fn place_cell(ticket: u64) -> u64
-    requires { ticket < most_tickets }
-    ensures { result ≡ place_cell ticket }
-{
-    ENTRY_CELLS * ticket + 2
+    store.height().saturating_add(1)
 }
 
 // A fault that the heap itself finds.
@@ -54,7 +56,7 @@ pub(crate) fn own<S: Store>(store: &S, cause: Cause, ticket: u64) -> QueueFault
 {
     QueueFault::Found(Fault {
         cause,
-        height: store.height().saturating_add(1),
+        height: height_over(store),
         place: ticket,
     })
 }
@@ -64,6 +66,18 @@ pub(crate) fn senseless<S: Store>(store: &S) -> QueueFault
     ensures { result ≡ found SenselessCell (min 255 (S.Store.meaning.height (S.Store.state store.now) + 1)) 0 }
 {
     own(store, Cause::SenselessCell, 0)
+}
+
+// What a cell holds: it makes sense below a limit.
+fn read_below<S: Store>(store: &mut S, cell: u64, limit: u64) -> Result<u64, QueueFault>
+    ensures does { Does S.Store.state store.old store.new result (λ s. calling S.Store.meaning (S.Store.meaning.read s cell) (as_ticket S.Store.meaning limit)) }
+    ensures below { IfOk result (λ w. w < limit) }
+{
+    let word = store.read(cell)?;
+    if word >= limit {
+        return Err(senseless(store));
+    }
+    Ok(word)
 }
 
 // The ticket of an entry.
@@ -76,11 +90,7 @@ pub(crate) fn ticket_at<S: Store>(
     ensures does { Does S.Store.state store.old store.new result (ticket_at S.Store.meaning capacity index) }
     ensures below { IfOk result (λ t. t < capacity) }
 {
-    let ticket = store.read(ticket_cell(index))?;
-    if ticket >= capacity {
-        return Err(senseless(store));
-    }
-    Ok(ticket)
+    read_below(store, cell::<TICKET>(index), capacity)
 }
 
 // The key of an entry.
@@ -88,40 +98,5 @@ pub(crate) fn key_at<S: Store>(store: &mut S, index: u64) -> Result<u64, QueueFa
     requires { index < most_tickets }
     ensures { Does S.Store.state store.old store.new result (key_at S.Store.meaning index) }
 {
-    let key = store.read(key_cell(index))?;
-    if key >= KEY_LIMIT {
-        return Err(senseless(store));
-    }
-    Ok(key)
-}
-
-// Writes an entry: its ticket, its key, and where the ticket is.
-pub(crate) fn place<S: Store>(
-    store: &mut S,
-    index: u64,
-    ticket: u64,
-    key: u64,
-) -> Result<(), QueueFault>
-    requires { (index < most_tickets) × (ticket < most_tickets) }
-    ensures { Does S.Store.state store.old store.new result (placing S.Store.meaning index ticket key) }
-{
-    store.write(ticket_cell(index), ticket)?;
-    store.write(key_cell(index), key)?;
-    store.write(place_cell(ticket), index + 1)?;
-    Ok(())
-}
-
-// Moves an entry, whose key is known, to a free place.
-pub(crate) fn move_entry<S: Store>(
-    store: &mut S,
-    capacity: u64,
-    from: u64,
-    to: u64,
-    key: u64,
-) -> Result<(), QueueFault>
-    requires { (capacity ≤ most_tickets) × ((from < most_tickets) × (to < most_tickets)) }
-    ensures { Does S.Store.state store.old store.new result (moving S.Store.meaning capacity from to key) }
-{
-    let ticket = ticket_at(store, capacity, from)?;
-    place(store, to, ticket, key)
+    read_below(store, cell::<KEY>(index), KEY_LIMIT)
 }

@@ -2,6 +2,5 @@
 #![tactic(auto)]
 
 pub mod binary;
-mod calls;
 mod cells;
 mod walk;

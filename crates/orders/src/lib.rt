@@ -48,8 +48,6 @@ impl Order for ByFault {
     ghost laws = { lexical_laws rank_of minute_of };
 
     fn is_before(&self, one: u64, other: u64) -> bool {
-        let first = rank(one);
-        let second = rank(other);
-        first < second || (first == second && minute(one) < minute(other))
+        (rank(one), minute(one)) < (rank(other), minute(other))
     }
 }
