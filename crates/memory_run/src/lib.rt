@@ -1,9 +1,9 @@
 // A list of calls performed on a checked memory just made, over any store.
 #![tactic(auto)]
 
-ghost use Rattle.std.specs.Prelude.{◌≡◌, ◌≤◌, [], length, vec_len, vec_capacity, MatchResult};
+ghost use Rattle.std.specs.Prelude.{◌≡◌, MatchResult};
 ghost use Rattle.memory_laws.specs.Checked.{plain};
-ghost use Rattle.memory_laws.specs.Runs.{performed, answers, after};
+ghost use Rattle.memory_laws.specs.Runs.{answering};
 ghost use Rattle.memory_laws.specs.Promise.{all_answers, left, Promise};
 ghost use Rattle.memory.specs.View.{view};
 
@@ -12,6 +12,7 @@ use memory_laws::call::{Answer, Call};
 use parts::fault::Fault;
 use parts::store::Store;
 use parts::tally::Tally;
+use runs::{Performs, perform_all};
 use std::alloc::{AllocError, Global};
 
 // What a call without a result is answered: it was declined, unless the memory is broken.
@@ -24,38 +25,35 @@ fn refused<S: Store, T: Tally>(memory: &CheckedMemory<S, T>, fault: Fault) -> An
     }
 }
 
-fn answer_to<S: Store, T: Tally>(memory: &mut CheckedMemory<S, T>, call: Call) -> Answer
-    ensures answer { result ≡ (performed (plain S.Store.meaning) T.Tally.tallying call (view S.Store.state memory.old)).0 }
-    ensures leaves { view S.Store.state memory.new ≡ (performed (plain S.Store.meaning) T.Tally.tallying call (view S.Store.state memory.old)).1 }
-{
-    match call {
-        Call::Write { cell, value } => match memory.write(cell, value) {
-            Ok(()) => Answer::Written,
-            Err(f) => refused(memory, f),
-        },
-        Call::Read { cell } => match memory.read(cell) {
-            Ok(v) => Answer::Value(v),
-            Err(f) => refused(memory, f),
-        },
-        Call::Sweep => match memory.sweep() {
-            Ok(()) => Answer::Passed,
-            Err(f) => refused(memory, f),
-        },
-    }
+// A checked memory that answers calls given as values.
+struct Answering<S, T: Tally> {
+    memory: CheckedMemory<S, T>,
 }
 
-// Performs the calls in turn.
-fn perform_all<S: Store, T: Tally>(
-    memory: &mut CheckedMemory<S, T>,
-    calls: &[Call],
-    all: &mut Vec<Answer>,
-)
-    requires { (all.old.items ≡ []) × ((vec_len all.old ≡ 0) × (length calls.now ≤ vec_capacity all.old)) }
-    ensures answer { all.new.items ≡ answers (plain S.Store.meaning) T.Tally.tallying calls.now (view S.Store.state memory.old) }
-    ensures leaves { view S.Store.state memory.new ≡ after (plain S.Store.meaning) T.Tally.tallying calls.now (view S.Store.state memory.old) }
-{
-    for i in 0..calls.len() {
-        all.push_reserved(answer_to(memory, calls[i]));
+impl<S: Store, T: Tally> Performs for Answering<S, T> {
+    type Call = Call;
+
+    type Answer = Answer;
+
+    ghost machine = { answering (plain S.Store.meaning) T.Tally.tallying };
+
+    ghost state = { λ s. view S.Store.state s.memory };
+
+    fn perform(&mut self, call: Call) -> Answer {
+        match call {
+            Call::Write { cell, value } => match self.memory.write(cell, value) {
+                Ok(()) => Answer::Written,
+                Err(f) => refused(&self.memory, f),
+            },
+            Call::Read { cell } => match self.memory.read(cell) {
+                Ok(v) => Answer::Value(v),
+                Err(f) => refused(&self.memory, f),
+            },
+            Call::Sweep => match self.memory.sweep() {
+                Ok(()) => Answer::Passed,
+                Err(f) => refused(&self.memory, f),
+            },
+        }
     }
 }
 
@@ -77,7 +75,10 @@ pub fn perform<S: Store, T: Tally + Drop>(
         Ok(all) => all,
         Err(e) => return (store, Err(e)),
     };
-    let mut memory = CheckedMemory::new(store, tally);
-    perform_all(&mut memory, calls, &mut all);
+    let mut answering = Answering {
+        memory: CheckedMemory::new(store, tally),
+    };
+    perform_all(&mut answering, calls, &mut all);
+    let Answering { memory } = answering;
     (memory.into_store(), Ok(all))
 }
