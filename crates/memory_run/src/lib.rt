@@ -9,21 +9,10 @@ ghost use Rattle.memory.specs.View.{view};
 
 use memory::checked::CheckedMemory;
 use memory_laws::call::{Answer, Call};
-use parts::fault::Fault;
 use parts::store::Store;
 use parts::tally::Tally;
 use runs::{Performs, perform_all};
 use std::alloc::{AllocError, Global};
-
-// What a call without a result is answered: it was declined, unless the memory is broken.
-fn refused<S: Store, T: Tally>(memory: &CheckedMemory<S, T>, fault: Fault) -> Answer
-    ensures { result ≡ Rattle.memory_laws.specs.Runs.refused (view S.Store.state memory.now).broken fault }
-{
-    match memory.fault() {
-        None => Answer::Declined(fault),
-        Some(_) => Answer::Failed(fault),
-    }
-}
 
 // A checked memory that answers calls given as values.
 struct Answering<S, T: Tally> {
@@ -40,18 +29,18 @@ impl<S: Store, T: Tally> Performs for Answering<S, T> {
     ghost state = { λ s. view S.Store.state s.memory };
 
     fn perform(&mut self, call: Call) -> Answer {
-        match call {
-            Call::Write { cell, value } => match self.memory.write(cell, value) {
-                Ok(()) => Answer::Written,
-                Err(f) => refused(&self.memory, f),
-            },
-            Call::Read { cell } => match self.memory.read(cell) {
-                Ok(v) => Answer::Value(v),
-                Err(f) => refused(&self.memory, f),
-            },
-            Call::Sweep => match self.memory.sweep() {
-                Ok(()) => Answer::Passed,
-                Err(f) => refused(&self.memory, f),
+        let memory = &mut self.memory;
+        let outcome = match call {
+            Call::Write { cell, value } => memory.write(cell, value).map(|()| Answer::Written),
+            Call::Read { cell } => memory.read(cell).map(Answer::Value),
+            Call::Sweep => memory.sweep().map(|()| Answer::Passed),
+        };
+        match outcome {
+            Ok(answer) => answer,
+            // A call without a result was declined, unless the memory is broken.
+            Err(fault) => match memory.fault() {
+                None => Answer::Declined(fault),
+                Some(_) => Answer::Failed(fault),
             },
         }
     }
@@ -71,9 +60,10 @@ pub fn perform<S: Store, T: Tally + Drop>(
         (λ _. result.0 ≡ store) }
     ensures keeps { Promise S.Store.meaning T.Tally.tallying (S.Store.state store) tally calls.now }
 {
-    let mut all = match Vec::with_capacity(heap, calls.len()) {
-        Ok(all) => all,
-        Err(e) => return (store, Err(e)),
+    // queue_run takes these steps too: a function for both would ask for a trait with a method and a ghost member for the making and
+    // for the taking apart, which is more than the steps.
+    let Ok(mut all) = Vec::with_capacity(heap, calls.len()) else {
+        return (store, Err(AllocError));
     };
     let mut answering = Answering {
         memory: CheckedMemory::new(store, tally),

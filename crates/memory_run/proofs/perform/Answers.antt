@@ -1,4 +1,4 @@
-use Rattle.std.proofs.Common.{refl, ap, ◌∙◌}
+use Rattle.std.proofs.Common.{ap, ◌∙◌}
 use Rattle.parts.specs.Runs.{answers, after}
 use Rattle.parts.proofs.Runs.{all_answered, all_left}
 use Rattle.memory_laws.specs.Checked.{plain}
@@ -21,9 +21,5 @@ returns g c =
       );
     }
 
-pub returns-in-Err : goal.returns-in-Err
-returns-in-Err g c =
-    record {
-      gives = refl;
-      keeps = promised g.S.Store.meaning g.S.Store.keeps g.T.Tally.tallying g.T.Tally.laws _ c.args.tally c.args.calls.now;
-    }
+pub returns-in_default-clause-keeps : goal.returns-in_default-clause-keeps
+returns-in_default-clause-keeps g c = promised g.S.Store.meaning g.S.Store.keeps g.T.Tally.tallying g.T.Tally.laws _ c.args.tally c.args.calls.now
