@@ -1,5 +1,5 @@
 -- Watching a store changes no outcome.
-use Rattle.std.proofs.Common.{◌≡◌, ℕ, zero, suc, ◌+◌, ◌-◌, ◌^◌, Bool, true, false, cond, eqb, ltb, leb, List, [], ◌∷◌, Some, None, Ok, Err, Option, Result, unwrap_or, sym, refl, ap, ◌∙◌}
+use Rattle.std.proofs.Common.{◌≡◌, ℕ, zero, suc, ◌+◌, ◌-◌, ◌^◌, Bool, true, false, cond, nat_eq, nat_lt, nat_le, List, [], ◌∷◌, Some, None, Ok, Err, Option, Result, unwrap_or, sym, refl, ap, ◌∙◌}
 use Rattle.parts.specs.declared.fault.Fault.{Fault}
 use Rattle.parts.specs.Outcomes.{Outcome, and_then, up_to, settled, unless_broken}
 use Rattle.parts.specs.Meaning.{Meaning}
@@ -53,7 +53,7 @@ module _ (m : Meaning) {T V : Type 0} (l : T → Tallying V) where
   unbroken None s o o' e = e
 
   examines : (a x : ℕ) (s : W) → forgotten (examined (watched m) l a x s) ≡ examined (plain m) l a x (forget s)
-  examines a x s = tested (ltb x (2 ^ (s.width + stamp_bits))) _ _ _ _ (tested (leb (stamp_of s.width x) s.clock) _ _ _ _ refl refl) refl
+  examines a x s = tested (nat_lt x (2 ^ (s.width + stamp_bits))) _ _ _ _ (tested (nat_le (stamp_of s.width x) s.clock) _ _ _ _ refl refl) refl
 
   fetches : (a : ℕ) (s : W) → forgotten (fetch (watched m) l a s) ≡ fetch (plain m) l a (forget s)
   fetches a s = then (on_store (watched m) l s ((watched m).read s.store a)) (examined (watched m) l a) (examined (plain m) l a) (examines a)
@@ -83,7 +83,7 @@ module _ (m : Meaning) {T V : Type 0} (l : T → Tallying V) where
       ∙ ap (λ o. and_then o (closed (plain m) l)) (steps (renewed (watched m) l) (renewed (plain m) l) renews s.size (l s.rule).start s')
 
   readies : (s : W) → forgotten (ready (watched m) l s) ≡ ready (plain m) l (forget s)
-  readies s = tested (eqb s.clock clock_end) (sweep_all (watched m) l s) (Ok tt, s) _ _ (sweeps_all s) refl
+  readies s = tested (nat_eq s.clock clock_end) (sweep_all (watched m) l s) (Ok tt, s) _ _ (sweeps_all s) refl
 
   restamps : (a : ℕ) (new : Option ℕ) (v : ℕ) (s : W) → forgotten (restamped (watched m) l a new v s) ≡ restamped (plain m) l a new v (forget s)
   restamps a new v s =
@@ -100,12 +100,12 @@ module _ (m : Meaning) {T V : Type 0} (l : T → Tallying V) where
   broken_visits a new s = breaks (visit (watched m) l a new s) ∙ ap (settled at_broken) (visits a new s)
 
   pub forget_reads : (a : ℕ) (s : W) → forgotten (reads (watched m) l a s) ≡ reads (plain m) l a (forget s)
-  forget_reads a s = unbroken s.broken s _ _ (tested (ltb a s.size) _ _ _ _ (broken_visits a None s) refl)
+  forget_reads a s = unbroken s.broken s _ _ (tested (nat_lt a s.size) _ _ _ _ (broken_visits a None s) refl)
 
   pub forget_writes : (a v : ℕ) (s : W) → forgotten (writes (watched m) l a v s) ≡ writes (plain m) l a v (forget s)
   forget_writes a v s =
-      unbroken s.broken s _ _ (tested (ltb a s.size) _ _ _ _
-      (tested (ltb v (2 ^ s.width)) _ _ _ _
+      unbroken s.broken s _ _ (tested (nat_lt a s.size) _ _ _ _
+      (tested (nat_lt v (2 ^ s.width)) _ _ _ _
       (breaks (replaced (watched m) l a v s) ∙ ap (settled at_broken) (then (visit (watched m) l a (Some v) s) (done (watched m) l) (done (plain m) l) (λ _ _. refl) ∙ ap (λ o. and_then o (done (plain m) l)) (visits a (Some v) s)))
       refl) refl)
 

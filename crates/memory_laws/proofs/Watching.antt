@@ -1,5 +1,5 @@
 -- The runs of a memory that is watched: what each call did, and what is promised of every list of calls.
-use Rattle.std.proofs.Common.{◌≡◌, ℕ, zero, suc, ◌^◌, ◌<◌, ◌≤◌, cond, ltb, ◌⊎◌, List, [], ◌∷◌, length, get_or, set, Some, None, Err, Option, Result, sym, refl, ap, ◌∙◌, subst, inl, inr, ⊎_elim, arith, length-set, get_or-set_other, get_or-set_same}
+use Rattle.std.proofs.Common.{◌≡◌, ℕ, zero, suc, ◌^◌, ◌<◌, ◌≤◌, cond, nat_lt, ◌⊎◌, List, [], ◌∷◌, length, slice_index_or, set, Some, None, Err, Option, Result, sym, refl, ap, ◌∙◌, subst, inl, inr, ⊎_elim, arith, length-set, get_or-set_other, get_or-set_same}
 use Rattle.std.proofs.lemmas.Bool.{cases_eq, cases_lt, lt-ltb, le-ltb}
 use Rattle.parts.specs.declared.fault.Fault.{Fault}
 use Rattle.parts.specs.declared.fault.Cause.TheVariants.{NoSuchCell, WordTooWide}
@@ -78,12 +78,12 @@ module _ (m : Meaning) {T V : Type 0} (l : T → Tallying V) (laws : (t : T) →
 
     -- what an unbroken memory does
     abbrev read_body : ℕ → Outcome Fault ℕ W
-    read_body a = cond (ltb a s.size) (settled at_broken (visit (watched m) l a None s)) (Err (fault NoSuchCell (height (watched m) l s) a), s)
+    read_body a = cond (nat_lt a s.size) (settled at_broken (visit (watched m) l a None s)) (Err (fault NoSuchCell (height (watched m) l s) a), s)
 
     abbrev write_body : ℕ → ℕ → Outcome Fault (Unit {0}) W
     write_body a v =
-        cond (ltb a s.size)
-        (cond (ltb v (2 ^ s.width)) (settled at_broken (replaced (watched m) l a v s)) (Err (fault WordTooWide (height (watched m) l s) a), s))
+        cond (nat_lt a s.size)
+        (cond (nat_lt v (2 ^ s.width)) (settled at_broken (replaced (watched m) l a v s)) (Err (fault WordTooWide (height (watched m) l s) a), s))
         (Err (fault NoSuchCell (height (watched m) l s) a), s)
 
     pub did : (c : Call) → Did h c (performed (watched m) l c s).0 (performed (watched m) l c s).1
@@ -162,10 +162,10 @@ module _ (m : Meaning) {T V : Type 0} (l : T → Tallying V) (laws : (t : T) →
         | inl p ↦
             let in_xs : a < length xs = omega arith in
             ap (λ (c : ℕ). val (update f c u.put b)) k.cell_is ∙ ap (λ (c : ℕ). val (update f a u.put c)) p ∙ ap val (update_same f a u.put) ∙ k.put_value
-            ∙ sym (get_or-set_same xs a v 0 in_xs) ∙ ap (λ (c : ℕ). get_or (set xs a v) c 0) (sym p) ∙ ap (λ (zs : List ℕ). get_or zs b 0) (sym (is z))
+            ∙ sym (get_or-set_same xs a v 0 in_xs) ∙ ap (λ (c : ℕ). slice_index_or (set xs a v) c 0) (sym p) ∙ ap (λ (zs : List ℕ). slice_index_or zs b 0) (sym (is z))
         | inr ne ↦
             ap (λ (c : ℕ). val (update f c u.put b)) k.cell_is ∙ ap val (update_other f a u.put b ne) ∙ noted_may xs k.may note q.0 b lb
-            ∙ sym (get_or-set_other xs a b v 0 ne) ∙ ap (λ (zs : List ℕ). get_or zs b 0) (sym (is z))
+            ∙ sym (get_or-set_other xs a b v 0 ne) ∙ ap (λ (zs : List ℕ). slice_index_or zs b 0) (sym (is z))
       ]
 
   -- the state after some calls: unbroken with the ideal words, or broken with a trail
@@ -183,13 +183,13 @@ module _ (m : Meaning) {T V : Type 0} (l : T → Tallying V) (laws : (t : T) →
   ideal_step xs Sweep cs = refl
 
   -- what a reading that is true leaves of the ideal words: they are set to what they are
-  set_same : (xs : List ℕ) (a v : ℕ) → a < length xs → get_or xs a 0 ≡ v → xs ≡ set xs a v
+  set_same : (xs : List ℕ) (a v : ℕ) → a < length xs → slice_index_or xs a 0 ≡ v → xs ≡ set xs a v
   set_same [] a v lt e = absurd (omega arith)
   set_same (x ∷ xs) zero v lt e = ap (λ (y : ℕ). y ∷ xs) e
   set_same (x ∷ xs) (suc a) v lt e = ap (λ (k : List ℕ). x ∷ k) (set_same xs a v (omega arith) e)
 
   -- a reading that is true answers the ideal word
-  pub read_ideal : (h : Hist) (a v : ℕ) (s₁ : W) (xs : List ℕ) → a < n → (k : Visiting h a None v s₁) → Notes xs h → stale zeros (all (push k.before k.touch)) ≡ 0 → v ≡ get_or xs a 0
+  pub read_ideal : (h : Hist) (a v : ℕ) (s₁ : W) (xs : List ℕ) → a < n → (k : Visiting h a None v s₁) → Notes xs h → stale zeros (all (push k.before k.touch)) ≡ 0 → v ≡ slice_index_or xs a 0
   read_ideal h a v s₁ xs la k note z =
       let q = pushed k.before k.touch z in
       let val : ℕ → ℕ = value m l laws n w t narrow in

@@ -1,5 +1,5 @@
 -- What is promised of every list of calls on a memory just made, over any store.
-use Rattle.std.proofs.Common.{◌≡◌, ℕ, zero, suc, ◌+◌, ◌^◌, ◌<◌, ◌≤◌, ◌≢◌, ◌⊎◌, List, [], ◌∷◌, ◌++◌, length, get_or, take, drop, replicate, Some, None, Ok, Err, Result, sym, refl, ap, ◌∙◌, subst, inl, inr, append-nil, zero-add, arith}
+use Rattle.std.proofs.Common.{◌≡◌, ℕ, zero, suc, ◌+◌, ◌^◌, ◌<◌, ◌≤◌, ◌≢◌, ◌⊎◌, List, [], ◌∷◌, ◌++◌, length, slice_index_or, take, drop, replicate, Some, None, Ok, Err, Result, sym, refl, ap, ◌∙◌, subst, inl, inr, append-nil, zero-add, arith}
 use native.Mathlib.Nat.{zero-mod}
 use Rattle.std.proofs.lemmas.List.{get_or-replicate, length-replicate}
 use Rattle.parts.specs.declared.fault.Fault.{Fault}
@@ -35,23 +35,23 @@ module _ (m : Meaning) {T V : Type 0} (l : T → Tallying V) (laws : (t : T) →
 
   -- what is promised of a run from a state, for a memory of n cells of w bits
   pub record Kept (n w : ℕ) (s : W) (calls : List Call) : Type 0 where
-    pub offline : (i a v : ℕ) → i < length calls → get_or calls i Sweep ≡ Read a → get_or (answers (performed (watched m) l) calls s) i Passed ≡ Value v →
+    pub offline : (i a v : ℕ) → i < length calls → slice_index_or calls i Sweep ≡ Read a → slice_index_or (answers (performed (watched m) l) calls s) i Passed ≡ Value v →
         ((j : ℕ) → j ≤ length (epochs (events (after (performed (watched m) l) (take (suc i) calls) s))) →
-        (j < length (epochs (events (after (performed (watched m) l) calls s)))) × Same (get_or (epochs (events (after (performed (watched m) l) calls s))) j no_bags).got (get_or (epochs (events (after (performed (watched m) l) calls s))) j no_bags).put) →
-        (a < n) × (v ≡ get_or (ideal_words n w (replicate n 0) (take i calls)) a 0)
-    pub one_lie : (i : ℕ) → i < length calls → get_or calls i Sweep ≡ Sweep → misread (events (after (performed (watched m) l) (take (suc i) calls) s)) ≡ 1 →
-        (f : Fault) × (get_or (answers (performed (watched m) l) calls s) i Passed ≡ Failed f)
+        (j < length (epochs (events (after (performed (watched m) l) calls s)))) × Same (slice_index_or (epochs (events (after (performed (watched m) l) calls s))) j no_bags).got (slice_index_or (epochs (events (after (performed (watched m) l) calls s))) j no_bags).put) →
+        (a < n) × (v ≡ slice_index_or (ideal_words n w (replicate n 0) (take i calls)) a 0)
+    pub one_lie : (i : ℕ) → i < length calls → slice_index_or calls i Sweep ≡ Sweep → misread (events (after (performed (watched m) l) (take (suc i) calls) s)) ≡ 1 →
+        (f : Fault) × (slice_index_or (answers (performed (watched m) l) calls s) i Passed ≡ Failed f)
     pub one_lie_ends : (i : ℕ) → i < length calls → (before since : List Event) → events (after (performed (watched m) l) (take (suc i) calls) s) ≡ before ++ sweep_ends ∷ since →
-        misread before ≡ 1 → accepted (get_or (answers (performed (watched m) l) calls s) i Passed) → ⊥
+        misread before ≡ 1 → accepted (slice_index_or (answers (performed (watched m) l) calls s) i Passed) → ⊥
     pub whole_sweeps : (before since : List Event) → events (after (performed (watched m) l) calls s) ≡ before ++ sweep_ends ∷ since →
         (earlier : List Event) × (words : List (ℕ × ℕ)) × (length words ≡ n) × (before ≡ earlier ++ (sweep_begins ∷ taken 0 words))
 
   -- of a memory that the making broke
   module _ (n w : ℕ) (s : W) (f : Fault) (e : s.broken ≡ Some f) (quiet : Endless (events s)) (t : T) (calls : List Call) where
-    broken_answer : (i : ℕ) → i < length calls → get_or (answers (performed (watched m) l) calls s) i Passed ≡ Failed f
+    broken_answer : (i : ℕ) → i < length calls → slice_index_or (answers (performed (watched m) l) calls s) i Passed ≡ Failed f
     broken_answer i lt =
-        answer_at (performed (watched m) l) calls s i Sweep Passed lt ∙ ap (λ (x : W). (performed (watched m) l (get_or calls i Sweep) x).0) (broken_after m l laws 0 0 t (omega arith) (take i calls) s f e)
-        ∙ ap (λ (r : Answer × W). r.0) (broken_performed m l laws 0 0 t (omega arith) (get_or calls i Sweep) s f e)
+        answer_at (performed (watched m) l) calls s i Sweep Passed lt ∙ ap (λ (x : W). (performed (watched m) l (slice_index_or calls i Sweep) x).0) (broken_after m l laws 0 0 t (omega arith) (take i calls) s f e)
+        ∙ ap (λ (r : Answer × W). r.0) (broken_performed m l laws 0 0 t (omega arith) (slice_index_or calls i Sweep) s f e)
 
     kept_broken : Kept n w s calls
     kept_broken = record {
@@ -126,16 +126,16 @@ module _ (m : Meaning) {T V : Type 0} (l : T → Tallying V) (laws : (t : T) →
       reached i = reach m l laws n w t narrow (take i calls) s fresh (replicate n 0) i₀ first_notes (length-replicate {A = ℕ} n 0)
 
       -- the answer to a call on a broken memory
-      ill_answer : (i : ℕ) (f : Fault) → i < length calls → (at i).broken ≡ Some f → get_or (answers (performed (watched m) l) calls s) i Passed ≡ Failed f
-      ill_answer i f lt b = answer_at (performed (watched m) l) calls s i Sweep Passed lt ∙ ap (λ (r : Answer × W). r.0) (broken_performed m l laws n w t narrow (get_or calls i Sweep) (at i) f b)
+      ill_answer : (i : ℕ) (f : Fault) → i < length calls → (at i).broken ≡ Some f → slice_index_or (answers (performed (watched m) l) calls s) i Passed ≡ Failed f
+      ill_answer i f lt b = answer_at (performed (watched m) l) calls s i Sweep Passed lt ∙ ap (λ (r : Answer × W). r.0) (broken_performed m l laws n w t narrow (slice_index_or calls i Sweep) (at i) f b)
 
-      reading : (i a v : ℕ) → i < length calls → get_or calls i Sweep ≡ Read a → get_or (answers (performed (watched m) l) calls s) i Passed ≡ Value v →
+      reading : (i a v : ℕ) → i < length calls → slice_index_or calls i Sweep ≡ Read a → slice_index_or (answers (performed (watched m) l) calls s) i Passed ≡ Value v →
           ((j : ℕ) → j ≤ length (epochs (events (at (suc i)))) →
-          (j < length (epochs (events (after (performed (watched m) l) calls s)))) × Same (get_or (epochs (events (after (performed (watched m) l) calls s))) j no_bags).got (get_or (epochs (events (after (performed (watched m) l) calls s))) j no_bags).put) →
-          Reached m l laws n w t narrow fresh (ideal_at i) (at i) → (a < n) × (v ≡ get_or (ideal_at i) a 0)
+          (j < length (epochs (events (after (performed (watched m) l) calls s)))) × Same (slice_index_or (epochs (events (after (performed (watched m) l) calls s))) j no_bags).got (slice_index_or (epochs (events (after (performed (watched m) l) calls s))) j no_bags).put) →
+          Reached m l laws n w t narrow fresh (ideal_at i) (at i) → (a < n) × (v ≡ slice_index_or (ideal_at i) a 0)
       reading i a v lt is answered same (ill f h₁ b p tr) = let q = ill_answer i f lt b in let z : ◌≡◌ {A = ℕ} 0 1 = cc in absurd (omega arith)
       reading i a v lt is answered same (well h₁ p j note len) =
-          let c = get_or calls i Sweep in
+          let c = slice_index_or calls i Sweep in
           let s₁ : W = (performed (watched m) l c (at i)).1 in
           let d = read_did (did m l laws n w t narrow h₁ (at i) j c) a v is (sym (answer_at (performed (watched m) l) calls s i Sweep Passed lt) ∙ answered) in
           let la = d.0 in let k = d.1 in
@@ -152,17 +152,17 @@ module _ (m : Meaning) {T V : Type 0} (l : T → Tallying V) (laws : (t : T) →
           let q = (same (length h₂.past) (omega arith)).0 in omega (arith, q, ap length then, bags_length (made_records 0 n) h₃.past) in
           let agree : Agree Same (made_records 0 n) (take (suc (length h₂.past)) h₃.past) =
           same_take (made_records 0 n) h₃.past (suc (length h₂.past))
-          (λ x lx. subst (λ (bs : List _). Same (get_or bs x no_bags).got (get_or bs x no_bags).put) then (same x (omega arith)).1) in
+          (λ x lx. subst (λ (bs : List _). Same (slice_index_or bs x no_bags).got (slice_index_or bs x no_bags).put) then (same x (omega arith)).1) in
           let none : stale zeros (touches (take (suc (length h₂.past)) h₃.past)) ≡ 0 =
           offline_from _ n zeros (made_records 0 n) (take (suc (length h₂.past)) h₃.past) low (made_same n) (each_take _ h₃.past (suc (length h₂.past)) r.2.past) agree in
           let true_so_far : stale zeros (all h₂) ≡ 0 = omega (arith, prefix_stale zeros h₂ h₃ r.1 more, none) in
           (la, read_ideal m l laws n w t narrow h₁ a v s₁ (ideal_at i) la k note true_so_far)
 
-      lying : (i : ℕ) → i < length calls → get_or calls i Sweep ≡ Sweep → misread (events (at (suc i))) ≡ 1 → Reached m l laws n w t narrow fresh (ideal_at i) (at i) →
-          (f : Fault) × (get_or (answers (performed (watched m) l) calls s) i Passed ≡ Failed f)
+      lying : (i : ℕ) → i < length calls → slice_index_or calls i Sweep ≡ Sweep → misread (events (at (suc i))) ≡ 1 → Reached m l laws n w t narrow fresh (ideal_at i) (at i) →
+          (f : Fault) × (slice_index_or (answers (performed (watched m) l) calls s) i Passed ≡ Failed f)
       lying i lt is one (ill f h₁ b p tr) = (f, ill_answer i f lt b)
       lying i lt is one (well h₁ p j note len) =
-          let c = get_or calls i Sweep in
+          let c = slice_index_or calls i Sweep in
           let s₁ : W = (performed (watched m) l c (at i)).1 in
           elim (sweep_did (did m l laws n w t narrow h₁ (at i) j c) is) [
             | inl k ↦
@@ -179,10 +179,10 @@ module _ (m : Meaning) {T V : Type 0} (l : T → Tallying V) (laws : (t : T) →
           take_whole (x ∷ xs) = ap (λ k. x ∷ k) (take_whole xs)
 
       ending : (i : ℕ) → i < length calls → (before since : List Event) → events (at (suc i)) ≡ before ++ sweep_ends ∷ since → misread before ≡ 1 →
-          accepted (get_or (answers (performed (watched m) l) calls s) i Passed) → Reached m l laws n w t narrow fresh (ideal_at i) (at i) → ⊥
+          accepted (slice_index_or (answers (performed (watched m) l) calls s) i Passed) → Reached m l laws n w t narrow fresh (ideal_at i) (at i) → ⊥
       ending i lt before since is one ok (ill f h₁ b p tr) = subst accepted (ill_answer i f lt b) ok
       ending i lt before since is one ok (well h₁ p j note len) =
-          let c = get_or calls i Sweep in
+          let c = slice_index_or calls i Sweep in
           let s₁ : W = (performed (watched m) l c (at i)).1 in
           let d = accepted_did (did m l laws n w t narrow h₁ (at i) j c) (subst accepted (answer_at (performed (watched m) l) calls s i Sweep Passed lt) ok) in
           let here : flat n d.0 ≡ before ++ sweep_ends ∷ since = sym d.1.log_is ∙ ap events (sym (after_one (performed (watched m) l) calls s i Sweep lt)) ∙ is in
