@@ -1,18 +1,11 @@
-use Rattle.std.proofs.Common.{◌≡◌, ℕ, ◌+◌, ◌-◌, ◌<◌, min, List, replicate, IfOk, Ok, Err, Result, ap, ◌∙◌, arith, MatchResult}
-use Rattle.std.proofs.lemmas.List.{length-replicate}
+use Rattle.std.proofs.Common.{◌≡◌, ℕ, ◌+◌, ◌-◌, ◌<◌, min, List, replicate, ap, ◌∙◌, arith}
 use Rattle.parts.specs.Meaning.{Meaning, Keeps}
 use Rattle.parts.specs.Tallying.{Tallying, Laws}
-use Rattle.parts.proofs.Clauses.{size_is}
 use Rattle.memory_laws.specs.declared.call.Call.{Call}
 use Rattle.memory_laws.specs.Checked.{Mem, plain, checked, StartsLoyal}
 use Rattle.memory_laws.specs.Runs.{ideal_answers}
 use Rattle.memory_laws.specs.Promise.{all_answers, Promise}
-use Rattle.memory_laws.proofs.CheckedKeeps.{checked_keeps}
-
--- what is known of a value that was made, whatever is known where none was
-pub made_where : {A F : Type 0} (r : Result A F) (P P' : A → Type 0) (Q : F → Type 0) → MatchResult r P Q → ((a : A) → P a → P' a) → IfOk r P'
-made_where (Ok a) P P' Q h k = k a h
-made_where (Err f) P P' Q h k = tt
+use Rattle.memory_laws.proofs.CheckedKeeps.{starts_as_large}
 
 same_ideal : {h h' n n' w w' : ℕ} (cs : List Call) → h ≡ h' → n ≡ n' → w ≡ w' → ideal_answers h n w (replicate n 0) cs ≡ ideal_answers h' n' w' (replicate n' 0) cs
 same_ideal cs p q r = rw (p, q, r)
@@ -23,6 +16,6 @@ module _ (m : Meaning) (keeps : Keeps m) {T V : Type 0} (l : T → Tallying V) (
       all_answers (checked m l) k x u cs ≡ ideal_answers (min 255 (min 255 (m.height s + 1) + 1)) (m.size s) (m.width s - 20 - 20) (replicate (m.size s) 0) cs
   ideal_on_pile s x u cs starts promise h wide =
       let d = starts h (omega arith) in
-      let size : x.size ≡ m.size s = size_is (checked m l) (checked_keeps m keeps l laws) _ _ (replicate (m.size s) 0) x d ∙ length-replicate {A = ℕ} (m.size s) 0 in
+      let size : x.size ≡ m.size s = starts_as_large m keeps l laws s x starts h (omega arith) in
       promise.no_alarm d.loyal (omega (arith, d.width_is))
       ∙ same_ideal cs (ap (λ (g : ℕ). min 255 (g + 1)) d.height_is) size (ap (λ (w : ℕ). w - 20) d.width_is)

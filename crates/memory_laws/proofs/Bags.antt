@@ -1,5 +1,5 @@
 -- Bags of records, and their tallies.
-use Rattle.std.proofs.Common.{◌≡◌, ℕ, ◌+◌, ◌<◌, cond, eqb, List, [], ◌∷◌, ◌++◌, sym, refl, ap, ◌∙◌, arith, eq-eqb}
+use Rattle.std.proofs.Common.{◌≡◌, ℕ, ◌+◌, ◌<◌, cond, nat_eq, List, [], ◌∷◌, ◌++◌, sym, refl, ap, ◌∙◌, arith, eq-eqb}
 use Rattle.parts.specs.Tallying.{Tallying, Laws}
 use Rattle.memory_laws.specs.History.{count, Same}
 
@@ -22,12 +22,12 @@ tallied_more l v (y ∷ xs) x = tallied_more l (l.add v y) xs x
 -- xs without the first r
 abbrev less : ℕ → List ℕ → List ℕ
 less r [] = []
-less r (x ∷ xs) = cond (eqb x r) xs (x ∷ less r xs)
+less r (x ∷ xs) = cond (nat_eq x r) xs (x ∷ less r xs)
 
-count_less : (a r : ℕ) (xs : List ℕ) → 0 < count a xs → count r xs ≡ cond (eqb a r) 1 0 + count r (less a xs)
+count_less : (a r : ℕ) (xs : List ℕ) → 0 < count a xs → count r xs ≡ cond (nat_eq a r) 1 0 + count r (less a xs)
 count_less a r [] h = absurd (omega arith)
 count_less a r (x ∷ xs) h =
-    let ih : 0 < count a xs → count r xs ≡ cond (eqb a r) 1 0 + count r (less a xs) = count_less a r xs in
+    let ih : 0 < count a xs → count r xs ≡ cond (nat_eq a r) 1 0 + count r (less a xs) = count_less a r xs in
     grind arith
 
 tallied_less : {V : Type 0} (l : Tallying V) → Laws l → (v : V) (a : ℕ) (xs : List ℕ) → 0 < count a xs → tallied l v xs ≡ tallied l (l.add v a) (less a xs)

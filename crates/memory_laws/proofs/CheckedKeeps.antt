@@ -1,9 +1,9 @@
 -- A checked memory over a store that keeps its meaning keeps its own.
-use Rattle.std.proofs.Common.{◌≡◌, ℕ, ◌^◌, ◌<◌, ◌≤◌, List, map, get_or, set, Some, None, Ok, Err, Option, Result, unwrap_or, sym, refl, ap, ◌∙◌, ⊎_elim, mod-lt, arith}
+use Rattle.std.proofs.Common.{◌≡◌, ℕ, ◌^◌, ◌<◌, ◌≤◌, List, map, slice_index_or, set, replicate, Some, None, Ok, Err, Option, Result, unwrap_or, sym, refl, ap, ◌∙◌, ⊎_elim, mod-lt, arith}
 use native.Mathlib.Nat.{zero-mod}
 use lib.ListN.{get_or-map}
 use lib.Seq.{set-get_or}
-use Rattle.std.proofs.lemmas.List.{length-map}
+use Rattle.std.proofs.lemmas.List.{length-map, length-replicate}
 use Rattle.std.proofs.lemmas.Bool.{cases_lt, lt-ltb, le-ltb}
 use Rattle.std.proofs.lemmas.Nat.{pow_pos}
 use Rattle.parts.specs.declared.fault.Fault.{Fault}
@@ -11,12 +11,12 @@ use Rattle.parts.specs.declared.fault.Cause.TheVariants.{NoSuchCell, WordTooWide
 use Rattle.parts.specs.Outcomes.{Outcome, and_then, settled, unless_broken}
 use Rattle.parts.specs.Meaning.{Meaning, Keeps, fault, reading, writing, written}
 use Rattle.parts.specs.Tallying.{Tallying, Laws}
-use Rattle.parts.proofs.Clauses.{fit_says, says_fit}
-use Rattle.memory_laws.specs.Checked.{Mem, plain, value_of, at_broken, height, turned, visit, reads, writes, sweeps, done, Loyal, checked}
+use Rattle.parts.proofs.Clauses.{fit_says, says_fit, size_is}
+use Rattle.memory_laws.specs.Checked.{Mem, plain, value_of, at_broken, height, turned, visit, reads, writes, sweeps, done, Loyal, checked, StartsLoyal}
 use Rattle.memory_laws.proofs.Loyalty.{Fine, sweep_is, ready_is, turn_is, unmoved}
 
-pub value_at : (w : ℕ) (xs : List ℕ) (a : ℕ) → get_or (map (value_of w) xs) a 0 ≡ value_of w (get_or xs a 0)
-value_at w xs a = ap (get_or (map (value_of w) xs) a) (sym (zero-mod (2 ^ w))) ∙ get_or-map (value_of w) xs a 0
+pub value_at : (w : ℕ) (xs : List ℕ) (a : ℕ) → slice_index_or (map (value_of w) xs) a 0 ≡ value_of w (slice_index_or xs a 0)
+value_at w xs a = ap (slice_index_or (map (value_of w) xs) a) (sym (zero-mod (2 ^ w))) ∙ get_or-map (value_of w) xs a 0
 
 -- an unbroken part does what it is asked
 pub unbroken_is : {F A S : Type 0} (b : Option F) (s : S) (o : Outcome F A S) → b ≡ None → unless_broken b s o ≡ o
@@ -29,13 +29,13 @@ module _ (m : Meaning) (keeps : Keeps m) {T V : Type 0} (l : T → Tallying V) (
   abbrev cells : State → List ℕ
   cells s = (checked m l).cells s
 
-  visit_is : (s : State) (a : ℕ) (new : Option ℕ) → Loyal m l s → a < s.size → (v : ℕ) → unwrap_or new (get_or (cells s) a 0) ≡ v → v < 2 ^ s.width →
+  visit_is : (s : State) (a : ℕ) (new : Option ℕ) → Loyal m l s → a < s.size → (v : ℕ) → unwrap_or new (slice_index_or (cells s) a 0) ≡ v → v < 2 ^ s.width →
       (t : State) × (visit (plain m) l a new s ≡ (Ok v, t)) × Fine m keeps l laws s t (set (cells s) a v)
   visit_is s a new h lt v e small =
       let r = ready_is m keeps l laws s h in
       let s' = r.0 in let d = r.2.holds in
-      let e' : unwrap_or new (value_of s'.width (get_or (m.cells s'.store) a 0)) ≡ v =
-      ap (unwrap_or new) (sym (value_at s'.width (m.cells s'.store) a) ∙ ap (λ xs. get_or xs a 0) d.cells_are) ∙ e in
+      let e' : unwrap_or new (value_of s'.width (slice_index_or (m.cells s'.store) a 0)) ≡ v =
+      ap (unwrap_or new) (sym (value_at s'.width (m.cells s'.store) a) ∙ ap (λ xs. slice_index_or xs a 0) d.cells_are) ∙ e in
       let q = turn_is m keeps l laws s' a new d.loyal r.3 (rw r.2.size_same lt) v e' (rw d.width_is small) in (
         q.0,
         ap (λ (o : Outcome Fault (Unit {0}) State). and_then o (turned (plain m) l a new)) r.1 ∙ q.1,
@@ -56,12 +56,12 @@ module _ (m : Meaning) (keeps : Keeps m) {T V : Type 0} (l : T → Tallying V) (
       (q.0, unbroken_is s.broken s _ h.unbroken ∙ ap (settled at_broken) q.1, q.2)
 
   module _ (s : State) (h : Loyal m l s) (a : ℕ) where
-    below : get_or (cells s) a 0 < 2 ^ s.width
-    below = rw (value_at s.width (m.cells s.store) a) (mod-lt (get_or (m.cells s.store) a 0) (pow_pos s.width))
+    below : slice_index_or (cells s) a 0 < 2 ^ s.width
+    below = rw (value_at s.width (m.cells s.store) a) (mod-lt (slice_index_or (m.cells s.store) a 0) (pow_pos s.width))
 
-    reads_in : a < s.size → (t : State) × (reads (plain m) l a s ≡ (Ok (get_or (cells s) a 0), t)) × Fine m keeps l laws s t (cells s)
+    reads_in : a < s.size → (t : State) × (reads (plain m) l a s ≡ (Ok (slice_index_or (cells s) a 0), t)) × Fine m keeps l laws s t (cells s)
     reads_in lt =
-        let q = visit_is s a None h lt (get_or (cells s) a 0) refl below in
+        let q = visit_is s a None h lt (slice_index_or (cells s) a 0) refl below in
         let b = lt-ltb a s.size lt in (
           q.0,
           unbroken_is s.broken s _ h.unbroken ∙ rw b (ap (settled at_broken) q.1),
@@ -80,7 +80,7 @@ module _ (m : Meaning) (keeps : Keeps m) {T V : Type 0} (l : T → Tallying V) (
         ⊎_elim
         (λ (lt : a < s.size).
         let q = reads_in lt in
-        let e : reading (height (plain m) l s) s.size (cells s) a ≡ Ok (get_or (cells s) a 0) = rw (lt-ltb a s.size lt) in
+        let e : reading (height (plain m) l s) s.size (cells s) a ≡ Ok (slice_index_or (cells s) a 0) = rw (lt-ltb a s.size lt) in
         (q.0, q.1 ∙ ap (λ (r : Result ℕ Fault). (r, q.0)) (sym e), q.2))
         (λ (le : s.size ≤ a).
         let e : reading (height (plain m) l s) s.size (cells s) a ≡ Err (fault NoSuchCell (height (plain m) l s) a) = rw (le-ltb a s.size le) in
@@ -132,3 +132,7 @@ module _ (m : Meaning) (keeps : Keeps m) {T V : Type 0} (l : T → Tallying V) (
     writes = λ s h a v. ap (λ o. o.0) (writes_is s h a v).1;
     write_leaves = λ s h a v. let q = writes_is s h a v in rw q.1 q.2.holds;
   }
+
+  -- over a loyal store a memory begins with as many cells as it has
+  pub starts_as_large : (s : m.State) (x : State) → StartsLoyal m l s x → m.loyal s → 20 < m.width s → x.size ≡ m.size s
+  starts_as_large s x starts h wide = size_is (checked m l) checked_keeps _ _ (replicate (m.size s) 0) x (starts h wide) ∙ length-replicate {A = ℕ} (m.size s) 0

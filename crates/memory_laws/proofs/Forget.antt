@@ -1,8 +1,9 @@
 -- Watching a store changes no outcome.
-use Rattle.std.proofs.Common.{◌≡◌, ℕ, zero, suc, ◌+◌, ◌-◌, ◌^◌, Bool, true, false, cond, eqb, ltb, leb, List, [], ◌∷◌, Some, None, Ok, Err, Option, Result, unwrap_or, sym, refl, ap, ◌∙◌}
+use Rattle.std.proofs.Common.{◌≡◌, ℕ, zero, suc, ◌+◌, ◌-◌, ◌^◌, Bool, true, false, cond, nat_eq, nat_lt, nat_le, List, [], ◌∷◌, Some, None, Ok, Err, Option, Result, unwrap_or, sym, refl, ap, ◌∙◌}
 use Rattle.parts.specs.declared.fault.Fault.{Fault}
 use Rattle.parts.specs.Outcomes.{Outcome, and_then, up_to, settled, unless_broken}
 use Rattle.parts.specs.Meaning.{Meaning}
+use Rattle.parts.specs.Runs.{answers, after}
 use Rattle.parts.specs.Tallying.{Tallying}
 use Rattle.memory_laws.specs.declared.call.Call.{Call}
 use Rattle.memory_laws.specs.declared.call.Call.TheVariants.{Write, Read, Sweep}
@@ -10,7 +11,7 @@ use Rattle.memory_laws.specs.declared.call.Answer.{Answer}
 use Rattle.memory_laws.specs.declared.call.Answer.TheVariants.{Written, Value, Passed}
 use Rattle.memory_laws.specs.Checked.{Memory, Mem, plain, stamp_bits, clock_end, stamp_of, word_of, at_store, at_clock, at_broken, on_store, examined, fetch, counted, put, retallied, rewritten, renewed, swept, closed, sweep_all, ready, answered, restamped, turn, turned, visit, done, replaced, reads, writes, sweeps, cleared, blank, checkable, opened, made}
 use Rattle.memory_laws.specs.History.{Watched, watched}
-use Rattle.memory_laws.specs.Runs.{told, performed, answers, after}
+use Rattle.memory_laws.specs.Runs.{told, performed}
 use Rattle.memory_laws.specs.Promise.{start, all_answers, left}
 
 -- the memory over the store itself
@@ -52,7 +53,7 @@ module _ (m : Meaning) {T V : Type 0} (l : T → Tallying V) where
   unbroken None s o o' e = e
 
   examines : (a x : ℕ) (s : W) → forgotten (examined (watched m) l a x s) ≡ examined (plain m) l a x (forget s)
-  examines a x s = tested (ltb x (2 ^ (s.width + stamp_bits))) _ _ _ _ (tested (leb (stamp_of s.width x) s.clock) _ _ _ _ refl refl) refl
+  examines a x s = tested (nat_lt x (2 ^ (s.width + stamp_bits))) _ _ _ _ (tested (nat_le (stamp_of s.width x) s.clock) _ _ _ _ refl refl) refl
 
   fetches : (a : ℕ) (s : W) → forgotten (fetch (watched m) l a s) ≡ fetch (plain m) l a (forget s)
   fetches a s = then (on_store (watched m) l s ((watched m).read s.store a)) (examined (watched m) l a) (examined (plain m) l a) (examines a)
@@ -82,7 +83,7 @@ module _ (m : Meaning) {T V : Type 0} (l : T → Tallying V) where
       ∙ ap (λ o. and_then o (closed (plain m) l)) (steps (renewed (watched m) l) (renewed (plain m) l) renews s.size (l s.rule).start s')
 
   readies : (s : W) → forgotten (ready (watched m) l s) ≡ ready (plain m) l (forget s)
-  readies s = tested (eqb s.clock clock_end) (sweep_all (watched m) l s) (Ok tt, s) _ _ (sweeps_all s) refl
+  readies s = tested (nat_eq s.clock clock_end) (sweep_all (watched m) l s) (Ok tt, s) _ _ (sweeps_all s) refl
 
   restamps : (a : ℕ) (new : Option ℕ) (v : ℕ) (s : W) → forgotten (restamped (watched m) l a new v s) ≡ restamped (plain m) l a new v (forget s)
   restamps a new v s =
@@ -99,12 +100,12 @@ module _ (m : Meaning) {T V : Type 0} (l : T → Tallying V) where
   broken_visits a new s = breaks (visit (watched m) l a new s) ∙ ap (settled at_broken) (visits a new s)
 
   pub forget_reads : (a : ℕ) (s : W) → forgotten (reads (watched m) l a s) ≡ reads (plain m) l a (forget s)
-  forget_reads a s = unbroken s.broken s _ _ (tested (ltb a s.size) _ _ _ _ (broken_visits a None s) refl)
+  forget_reads a s = unbroken s.broken s _ _ (tested (nat_lt a s.size) _ _ _ _ (broken_visits a None s) refl)
 
   pub forget_writes : (a v : ℕ) (s : W) → forgotten (writes (watched m) l a v s) ≡ writes (plain m) l a v (forget s)
   forget_writes a v s =
-      unbroken s.broken s _ _ (tested (ltb a s.size) _ _ _ _
-      (tested (ltb v (2 ^ s.width)) _ _ _ _
+      unbroken s.broken s _ _ (tested (nat_lt a s.size) _ _ _ _
+      (tested (nat_lt v (2 ^ s.width)) _ _ _ _
       (breaks (replaced (watched m) l a v s) ∙ ap (settled at_broken) (then (visit (watched m) l a (Some v) s) (done (watched m) l) (done (plain m) l) (λ _ _. refl) ∙ ap (λ o. and_then o (done (plain m) l)) (visits a (Some v) s)))
       refl) refl)
 
@@ -132,23 +133,23 @@ module _ (m : Meaning) {T V : Type 0} (l : T → Tallying V) where
   forget_performed (Read a) s = telling Value (reads (watched m) l a s) _ (forget_reads a s)
   forget_performed Sweep s = telling (λ _. Passed) (sweeps (watched m) l s) _ (forget_sweeps s)
 
-  pub forget_answers : (cs : List Call) (s : W) → answers (watched m) l cs s ≡ answers (plain m) l cs (forget s)
+  pub forget_answers : (cs : List Call) (s : W) → answers (performed (watched m) l) cs s ≡ answers (performed (plain m) l) cs (forget s)
   unfolding answers
   forget_answers [] s = refl
   forget_answers (c ∷ cs) s =
       let e = forget_performed c s in
-      ap (λ (rest : List Answer). (performed (watched m) l c s).0 ∷ rest) (forget_answers cs (performed (watched m) l c s).1) ∙ ap (λ (r : Answer × P). r.0 ∷ answers (plain m) l cs r.1) e
+      ap (λ (rest : List Answer). (performed (watched m) l c s).0 ∷ rest) (forget_answers cs (performed (watched m) l c s).1) ∙ ap (λ (r : Answer × P). r.0 ∷ answers (performed (plain m) l) cs r.1) e
 
-  pub forget_after : (cs : List Call) (s : W) → forget (after (watched m) l cs s) ≡ after (plain m) l cs (forget s)
+  pub forget_after : (cs : List Call) (s : W) → forget (after (performed (watched m) l) cs s) ≡ after (performed (plain m) l) cs (forget s)
   unfolding after
   forget_after [] s = refl
-  forget_after (c ∷ cs) s = forget_after cs (performed (watched m) l c s).1 ∙ ap (λ (r : Answer × P). after (plain m) l cs r.1) (forget_performed c s)
+  forget_after (c ∷ cs) s = forget_after cs (performed (watched m) l c s).1 ∙ ap (λ (r : Answer × P). after (performed (plain m) l) cs r.1) (forget_performed c s)
 
   -- a run that is watched from the making on is the run
-  pub watched_answers : (s : m.State) (t : T) (cs : List Call) → answers (plain m) l cs (made m l s t) ≡ all_answers m l s t cs
+  pub watched_answers : (s : m.State) (t : T) (cs : List Call) → answers (performed (plain m) l) cs (made m l s t) ≡ all_answers m l s t cs
   watched_answers s t cs =
-      sym (forget_answers cs (start m l s t) ∙ ap (answers (plain m) l cs) (forget_opened (m.size s) (m.width s) (record { below = s; history = [] }) t))
+      sym (forget_answers cs (start m l s t) ∙ ap (answers (performed (plain m) l) cs) (forget_opened (m.size s) (m.width s) (record { below = s; history = [] }) t))
 
-  pub watched_left : (s : m.State) (t : T) (cs : List Call) → (after (plain m) l cs (made m l s t)).store ≡ (left m l s t cs).store.below
+  pub watched_left : (s : m.State) (t : T) (cs : List Call) → (after (performed (plain m) l) cs (made m l s t)).store ≡ (left m l s t cs).store.below
   watched_left s t cs =
-      ap (λ (x : P). x.store) (sym (forget_after cs (start m l s t) ∙ ap (after (plain m) l cs) (forget_opened (m.size s) (m.width s) (record { below = s; history = [] }) t)))
+      ap (λ (x : P). x.store) (sym (forget_after cs (start m l s t) ∙ ap (after (performed (plain m) l) cs) (forget_opened (m.size s) (m.width s) (record { below = s; history = [] }) t)))

@@ -1,5 +1,5 @@
 -- Histories that go on, and the values that they leave.
-use Rattle.std.proofs.Common.{◌≡◌, ℕ, zero, suc, ◌+◌, ◌<◌, ◌≤◌, ◌⊎◌, List, [], ◌∷◌, ◌++◌, length, get_or, take, sym, refl, ap, ◌∙◌, inl, inr, append_assoc, append-nil, arith, ne_eqb}
+use Rattle.std.proofs.Common.{◌≡◌, ℕ, zero, suc, ◌+◌, ◌<◌, ◌≤◌, ◌⊎◌, List, [], ◌∷◌, ◌++◌, length, slice_index_or, take, sym, refl, ap, ◌∙◌, inl, inr, append_assoc, append-nil, arith, ne_eqb}
 use Rattle.std.proofs.lemmas.Bool.{cases_eq}
 use Rattle.memory_laws.specs.History.{update, Same, no_bags}
 use Rattle.memory_laws.proofs.Touches.{Touch, Epoch, writes, stale, words_after, touches, Each, Agree, stale_append, words_after_append, update_same, update_other}
@@ -54,7 +54,7 @@ agree_take P w es zero h = tt
 agree_take P w [] (suc k) h = tt
 agree_take P w (e ∷ es) (suc k) h = (h.0, agree_take P (writes e.sweep) es k h.1)
 
-pub same_take : (w : List ℕ) (es : List Epoch) (k : ℕ) → ((j : ℕ) → j < k → Same (get_or (bags w es) j no_bags).got (get_or (bags w es) j no_bags).put) → Agree Same w (take k es)
+pub same_take : (w : List ℕ) (es : List Epoch) (k : ℕ) → ((j : ℕ) → j < k → Same (slice_index_or (bags w es) j no_bags).got (slice_index_or (bags w es) j no_bags).put) → Agree Same w (take k es)
 same_take w es zero h = tt
 same_take w [] (suc k) h = tt
 same_take w (e ∷ es) (suc k) h = (h 0 (omega arith), same_take (writes e.sweep) es k (λ j lt. h (suc j) (omega arith)))
@@ -79,7 +79,7 @@ module _ (stamp value : ℕ → ℕ) where
 
   -- where nothing was read falsely, the values of the n cells are xs
   abbrev pub Noted : ℕ → List ℕ → Hist → Type 0
-  Noted n xs h = stale zeros (all h) ≡ 0 → (a : ℕ) → a < n → value (words_after zeros (all h) a) ≡ get_or xs a 0
+  Noted n xs h = stale zeros (all h) ≡ 0 → (a : ℕ) → a < n → value (words_after zeros (all h) a) ≡ slice_index_or xs a 0
 
   pub noted_close : (n : ℕ) (xs : List ℕ) (h : Hist) (sw : List Touch) → Renews stamp value sw → Noted n xs h → Noted n xs (close h sw)
   noted_close n xs h sw r k z a lt =

@@ -1,5 +1,5 @@
 -- A history by its epochs, and what its events say of them.
-use Rattle.std.proofs.Common.{◌≡◌, ℕ, zero, suc, ◌+◌, Bool, true, false, cond, eqb, ◌⊎◌, List, [], ◌∷◌, ◌++◌, length, take, sym, refl, ap, ◌∙◌, subst, inl, inr, append_assoc, append-nil, arith}
+use Rattle.std.proofs.Common.{◌≡◌, ℕ, zero, suc, ◌+◌, Bool, true, false, cond, nat_eq, ◌⊎◌, List, [], ◌∷◌, ◌++◌, length, take, sym, refl, ap, ◌∙◌, subst, inl, inr, append_assoc, append-nil, arith}
 use mathlib.Core.Path.{fun_ext}
 use Rattle.std.proofs.lemmas.Bool.{cases_Bool}
 use Rattle.memory_laws.specs.Checked.{record_of}
@@ -125,7 +125,7 @@ misread_pairs last (t ∷ ts) h = omega (arith, misread_pairs (update last t.cel
 
 misread_end : (last : ℕ → ℕ) (h : List Event) → misread_from last (h ++ sweep_ends ∷ []) ≡ misread_from last h
 misread_end last [] = refl
-misread_end last (did_read a x ∷ h) = ap (λ (k : ℕ). cond (eqb x (last a)) 0 1 + k) (misread_end last h)
+misread_end last (did_read a x ∷ h) = ap (λ (k : ℕ). cond (nat_eq x (last a)) 0 1 + k) (misread_end last h)
 misread_end last (did_write a x ∷ h) = misread_end (update last a x) h
 misread_end last (sweep_begins ∷ h) = misread_end last h
 misread_end last (sweep_ends ∷ h) = misread_end last h
@@ -147,7 +147,7 @@ misread_past last (e ∷ es) h =
     ∙ rw a (omega (arith, misread_epoch last e (past_events es ++ h), misread_past w es h, s))
 
 still_zeros : (a : ℕ) → update zeros a 0 ≡ zeros
-still_zeros a = fun_ext (λ b. elim (cases_Bool (eqb b a)) [ inl e ↦ rw e refl | inr e ↦ rw e refl ])
+still_zeros a = fun_ext (λ b. elim (cases_Bool (nat_eq b a)) [ inl e ↦ rw e refl | inr e ↦ rw e refl ])
 
 misread_made : (a k : ℕ) (h : List Event) → misread_from zeros (made_from a k ++ h) ≡ misread_from zeros h
 misread_made a zero h = refl

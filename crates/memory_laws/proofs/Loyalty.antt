@@ -1,5 +1,5 @@
 -- The checked memory over a loyal store: each call's outcome.
-use Rattle.std.proofs.Common.{◌≡◌, ℕ, zero, suc, ◌+◌, ◌^◌, ◌<◌, ◌≤◌, min, true, List, map, length, get_or, set, Ok, Option, unwrap_or, sym, refl, ap, ◌∙◌, ⊎_elim, mod-lt, arith, length-set, get_or-set_other, get_or-set_same}
+use Rattle.std.proofs.Common.{◌≡◌, ℕ, zero, suc, ◌+◌, ◌^◌, ◌<◌, ◌≤◌, min, true, List, map, length, slice_index_or, set, Ok, Option, unwrap_or, sym, refl, ap, ◌∙◌, ⊎_elim, mod-lt, arith, length-set, get_or-set_other, get_or-set_same}
 use native.Mathlib.Nat.{div-eq_of_lt, mod-mod}
 use lib.Seq.{map-set, map-set_same}
 use Rattle.std.proofs.lemmas.Bool.{cases_eq, lt-ltb, le-leb, eq-eqb, ne_eqb}
@@ -32,8 +32,8 @@ module _ (m : Meaning) (keeps : Keeps m) {T V : Type 0} (l : T → Tallying V) w
   long s h = sym (keeps.sized s.store h.loyal).0 ∙ h.size_is
 
   module _ (g : ℕ) (xs : List ℕ) (s : State) (d : Holds m (s.width + 20) g xs s.store) (a : ℕ) (lt : a < length xs) where
-    pub fetch_is : stamp_of s.width (get_or xs a 0) ≤ s.clock →
-        fetch (plain m) l a s ≡ (Ok (value_of s.width (get_or xs a 0)), at_read (at_store s (m.read s.store a).1) ((l s.rule).add s.read (record_of a (get_or xs a 0))))
+    pub fetch_is : stamp_of s.width (slice_index_or xs a 0) ≤ s.clock →
+        fetch (plain m) l a s ≡ (Ok (value_of s.width (slice_index_or xs a 0)), at_read (at_store s (m.read s.store a).1) ((l s.rule).add s.read (record_of a (slice_index_or xs a 0))))
     fetch_is past =
         let e = read_is m keeps (s.width + 20) g xs s.store d a lt in
         let narrow = lt-ltb _ _ (word_below m keeps (s.width + 20) g xs s.store d a lt) in
@@ -44,24 +44,24 @@ module _ (m : Meaning) (keeps : Keeps m) {T V : Type 0} (l : T → Tallying V) w
         put (plain m) l a x s ≡ (Ok tt, at_written (at_store s (m.write s.store a x).1) ((l s.rule).add s.written (record_of a x)))
     put_is x fits = rw (write_is m keeps (s.width + 20) g xs s.store d a lt x fits)
 
-    renewed_is : (fresh : V) → stamp_of s.width (get_or xs a 0) ≤ s.clock →
-        let v = value_of s.width (get_or xs a 0) in
-        renewed (plain m) l a fresh s ≡ (Ok ((l s.rule).add fresh (record_of a v)), at_read (at_store s (m.write (m.read s.store a).1 a v).1) ((l s.rule).add s.read (record_of a (get_or xs a 0))))
+    renewed_is : (fresh : V) → stamp_of s.width (slice_index_or xs a 0) ≤ s.clock →
+        let v = value_of s.width (slice_index_or xs a 0) in
+        renewed (plain m) l a fresh s ≡ (Ok ((l s.rule).add fresh (record_of a v)), at_read (at_store s (m.write (m.read s.store a).1 a v).1) ((l s.rule).add s.read (record_of a (slice_index_or xs a 0))))
     renewed_is fresh past =
-        let v : ℕ = value_of s.width (get_or xs a 0) in
-        let small : v < 2 ^ s.width = mod-lt (get_or xs a 0) (pow_pos s.width) in
+        let v : ℕ = value_of s.width (slice_index_or xs a 0) in
+        let small : v < 2 ^ s.width = mod-lt (slice_index_or xs a 0) (pow_pos s.width) in
         let d' = read_holds m keeps (s.width + 20) g xs s.store d a in
         let e = write_is m keeps (s.width + 20) g xs (m.read s.store a).1 d' a lt v (value_below s.width v small) in
         rw (fetch_is past) (rw e)
 
   module _ (laws : (t : T) → Laws (l t)) where
-    module _ (g : ℕ) (xs : List ℕ) (s : State) (n_is : length xs ≡ s.size) (past : (a : ℕ) → a < s.size → stamp_of s.width (get_or xs a 0) ≤ s.clock) where
+    module _ (g : ℕ) (xs : List ℕ) (s : State) (n_is : length xs ≡ s.size) (past : (a : ℕ) → a < s.size → stamp_of s.width (slice_index_or xs a 0) ≤ s.clock) where
       -- the store after the sweep's first k cells, with the words ys
       record Done (k : ℕ) (σ : m.State) (ys : List ℕ) : Type 0 where
         holds : Holds m (s.width + 20) g ys σ
         same_long : length ys ≡ s.size
-        later : (j : ℕ) → k ≤ j → get_or ys j 0 ≡ get_or xs j 0
-        small : (j : ℕ) → j < k → get_or ys j 0 < 2 ^ s.width
+        later : (j : ℕ) → k ≤ j → slice_index_or ys j 0 ≡ slice_index_or xs j 0
+        small : (j : ℕ) → j < k → slice_index_or ys j 0 < 2 ^ s.width
         values : map (value_of s.width) ys ≡ map (value_of s.width) xs
         is : swept (plain m) l k s ≡ (Ok (with_records (l s.rule) (l s.rule).start ys k), at_read (at_store s σ) (with_records (l s.rule) s.read xs k))
 
@@ -69,7 +69,7 @@ module _ (m : Meaning) (keeps : Keeps m) {T V : Type 0} (l : T → Tallying V) w
       unfolding up_to with_records
       done_more k σ ys lt d =
           let L = l s.rule in
-          let y : ℕ = get_or ys k 0 in
+          let y : ℕ = slice_index_or ys k 0 in
           let v : ℕ = value_of s.width y in
           let t : State = at_read (at_store s σ) (with_records L s.read xs k) in
           let σ' = (m.read σ k).1 in
@@ -79,8 +79,8 @@ module _ (m : Meaning) (keeps : Keeps m) {T V : Type 0} (l : T → Tallying V) w
           let fits : v < 2 ^ (s.width + 20) = value_below s.width v below in
           let σ'' = (m.write σ' k v).1 in
           let zs : List ℕ = set ys k v in
-          let at_k : get_or zs k 0 ≡ v = get_or-set_same ys k v 0 in_ys in
-          let same : y ≡ get_or xs k 0 = d.later k (omega arith) in
+          let at_k : slice_index_or zs k 0 ≡ v = get_or-set_same ys k v 0 in_ys in
+          let same : y ≡ slice_index_or xs k 0 = d.later k (omega arith) in
           let early : stamp_of s.width y ≤ s.clock = rw same (past k lt) in
           let step = ap (λ (o : Outcome Fault V State). and_then o (renewed (plain m) l k)) d.is ∙ renewed_is g ys t d.holds k in_ys (with_records L L.start ys k) early in
           let fresh : L.add (with_records L L.start ys k) (record_of k v) ≡ with_records L L.start zs (suc k) =
@@ -150,13 +150,13 @@ module _ (m : Meaning) (keeps : Keeps m) {T V : Type 0} (l : T → Tallying V) w
         (λ (ne : s.clock ≡ 1048575 → ⊥). let b = ne_eqb _ _ ne in (s, rw b, unmoved s h, omega (arith, h.in_range)))
         (cases_eq s.clock 1048575)
 
-    pub turn_is : (s : State) (a : ℕ) (new : Option ℕ) → Loyal m l s → s.clock < 1048575 → a < s.size → (v : ℕ) → unwrap_or new (value_of s.width (get_or (cells s) a 0)) ≡ v → v < 2 ^ s.width →
+    pub turn_is : (s : State) (a : ℕ) (new : Option ℕ) → Loyal m l s → s.clock < 1048575 → a < s.size → (v : ℕ) → unwrap_or new (value_of s.width (slice_index_or (cells s) a 0)) ≡ v → v < 2 ^ s.width →
         (t : State) × (turn (plain m) l a new s ≡ (Ok v, t)) × Fine s t (set ((checked m l).cells s) a v)
     turn_is s a new h early lt v e small =
         let L = l s.rule in
         let w = s.width in let c = s.clock in let g = m.height s.store in
         let xs : List ℕ = cells s in
-        let x : ℕ = get_or xs a 0 in
+        let x : ℕ = slice_index_or xs a 0 in
         let σ' = (m.read s.store a).1 in
         let d = words_held s h in
         let d' = read_holds m keeps (w + 20) g xs s.store d a in

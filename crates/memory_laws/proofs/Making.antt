@@ -1,5 +1,5 @@
 -- A checked memory made over a loyal store is loyal, with 0 in each cell.
-use Rattle.std.proofs.Common.{◌≡◌, ℕ, zero, suc, ◌+◌, ◌-◌, ◌^◌, ◌<◌, ◌≤◌, min, true, List, map, length, get_or, set, replicate, Ok, sym, refl, ap, ◌∙◌, ⊎_elim, arith, length-set, get_or-set_other, get_or-set_same}
+use Rattle.std.proofs.Common.{◌≡◌, ℕ, zero, suc, ◌+◌, ◌-◌, ◌^◌, ◌<◌, ◌≤◌, min, true, List, map, length, slice_index_or, set, replicate, Ok, sym, refl, ap, ◌∙◌, ⊎_elim, arith, length-set, get_or-set_other, get_or-set_same}
 use native.Mathlib.Nat.{zero-mod, zero-div}
 use Rattle.std.proofs.lemmas.List.{length-map, ext_get_or, get_or-replicate, length-replicate}
 use Rattle.std.proofs.lemmas.Bool.{cases_eq}
@@ -24,7 +24,7 @@ module _ (m : Meaning) (keeps : Keeps m) {T V : Type 0} (l : T → Tallying V) (
     record Done (k : ℕ) (σ : m.State) (xs : List ℕ) : Type 0 where
       holds : Holds m (w + 20) g xs σ
       long : length xs ≡ n
-      empty : (j : ℕ) → j < k → get_or xs j 0 ≡ 0
+      empty : (j : ℕ) → j < k → slice_index_or xs j 0 ≡ 0
       is : cleared (plain m) l k (blank (plain m) l t n w σ₀) ≡ (Ok tt, at_written (blank (plain m) l t n w σ) (with_records (l t) (l t).start xs k))
 
     cleared_is : (xs : List ℕ) → length xs ≡ n → Holds m (w + 20) g xs σ₀ → (k : ℕ) → k ≤ n → (σ : m.State) × (ys : List ℕ) × Done k σ ys
@@ -38,7 +38,7 @@ module _ (m : Meaning) (keeps : Keeps m) {T V : Type 0} (l : T → Tallying V) (
         let fits : 0 < 2 ^ (w + 20) = pow_pos (w + 20) in
         let zs : List ℕ = set ys k 0 in
         let σ' = (m.write σ k 0).1 in
-        let at_k : get_or zs k 0 ≡ 0 = get_or-set_same ys k 0 0 in_ys in
+        let at_k : slice_index_or zs k 0 ≡ 0 = get_or-set_same ys k 0 0 in_ys in
         let s : Mem (plain m) l = at_written (blank (plain m) l t n w σ) (with_records L L.start ys k) in
         let written : L.add (with_records L L.start ys k) (record_of k 0) ≡ with_records L L.start zs (suc k) =
         added L (laws t) k (sym (records_past L (laws t) L.start ys k 0 k (omega arith))) (sym at_k) in (

@@ -1,5 +1,5 @@
 -- Where the bags of every epoch agree no read was stale, and one stale read shows in the tallies.
-use Rattle.std.proofs.Common.{◌≡◌, ℕ, zero, suc, ◌+◌, ◌^◌, ◌<◌, ◌≤◌, false, cond, eqb, ◌≢◌, List, [], ◌∷◌, ◌++◌, sym, refl, ap, ◌∙◌, inl, inr, arith, eq-eqb, ne_eqb}
+use Rattle.std.proofs.Common.{◌≡◌, ℕ, zero, suc, ◌+◌, ◌^◌, ◌<◌, ◌≤◌, false, cond, nat_eq, ◌≢◌, List, [], ◌∷◌, ◌++◌, sym, refl, ap, ◌∙◌, inl, inr, arith, eq-eqb, ne_eqb}
 use Rattle.std.proofs.lemmas.Bool.{cases_eq}
 use Rattle.parts.specs.Tallying.{Tallying, Laws}
 use Rattle.memory_laws.specs.Checked.{record_of}
@@ -22,12 +22,12 @@ pub late : (stamp : ℕ → ℕ) (n c a w : ℕ) (ts : List Touch) → w < 2 ^ 4
 late stamp n c a w [] lt le h k = refl
 late stamp n c a w (t ∷ ts) lt le h k =
     let ih = late stamp n (suc c) a w ts lt (omega arith) h.3 k.2 in
-    let q : eqb (record_of t.cell t.put) (record_of a w) ≡ false =
+    let q : nat_eq (record_of t.cell t.put) (record_of a w) ≡ false =
     ne_eqb (record_of t.cell t.put) (record_of a w) (λ p. let e = ap stamp (record_tells t.cell a t.put w h.2 lt p).1 in omega arith) in
     rw q (omega arith)
 
 abbrev one : ℕ → ℕ → ℕ
-one x r = cond (eqb x r) 1 0
+one x r = cond (nat_eq x r) 1 0
 
 first : (r : ℕ) (xs : List ℕ) → 0 < count r (r ∷ xs)
 first r xs = rw (eq-eqb r r refl) (omega arith)

@@ -5,6 +5,7 @@ use Rattle.std.proofs.lemmas.Bool.Decides.{nat_tests}
 use Rattle.parts.specs.declared.fault.Fault.{Fault}
 use Rattle.parts.specs.Outcomes.{Outcome, up_to, settled}
 use Rattle.parts.specs.Meaning.{Meaning, Keeps, reading, writing, written}
+use Rattle.parts.specs.Runs.{answers}
 use Rattle.parts.specs.Tallying.{Tallying, Laws}
 use Rattle.memory_laws.specs.declared.call.Call.{Call}
 use Rattle.memory_laws.specs.declared.call.Call.TheVariants.{Write, Read, Sweep}
@@ -12,7 +13,7 @@ use Rattle.memory_laws.specs.declared.call.Answer.{Answer}
 use Rattle.memory_laws.specs.declared.call.Answer.TheVariants.{Written, Value, Passed}
 use Rattle.memory_laws.specs.Checked.{Mem, plain, height, at_broken, cleared, blank, checkable, made, Loyal, checked}
 use Rattle.memory_laws.specs.History.{watched}
-use Rattle.memory_laws.specs.Runs.{told, refused, performed, answers, ideally, ideal_answers}
+use Rattle.memory_laws.specs.Runs.{told, refused, performed, ideally, ideal_answers}
 use Rattle.memory_laws.specs.Promise.{start, all_answers, Promise}
 use Rattle.memory_laws.proofs.CheckedKeeps.{reads_is, writes_is, sweeps_is}
 use Rattle.memory_laws.proofs.Making.{made_is}
@@ -42,7 +43,7 @@ module _ (m : Meaning) (keeps : Keeps m) {T V : Type 0} (l : T → Tallying V) (
   told_ideally g (Err x) s e = ap (λ b. (refused b x, s)) e
 
   -- a loyal memory answers as an ideal one does
-  loyal_answers : (h n w : ℕ) (xs : List ℕ) (cs : List Call) (s : P) → Loyal m l s → height (plain m) l s ≡ h → s.size ≡ n → s.width ≡ w → (checked m l).cells s ≡ xs → answers (plain m) l cs s ≡ ideal_answers h n w xs cs
+  loyal_answers : (h n w : ℕ) (xs : List ℕ) (cs : List Call) (s : P) → Loyal m l s → height (plain m) l s ≡ h → s.size ≡ n → s.width ≡ w → (checked m l).cells s ≡ xs → answers (performed (plain m) l) cs s ≡ ideal_answers h n w xs cs
   unfolding answers
   loyal_answers h n w xs [] s i eh en ew ex = refl
   loyal_answers h n w xs (Write a v ∷ cs) s i eh en ew ex =
@@ -50,7 +51,7 @@ module _ (m : Meaning) (keeps : Keeps m) {T V : Type 0} (l : T → Tallying V) (
       let t = q.0 in let d = q.2.holds in
       let one : performed (plain m) l (Write a v) s ≡ (ideally (λ _. Written) (writing h n w a v), t) =
       ap (told (λ _. Written)) q.1 ∙ told_ideally (λ _. Written) _ t d.loyal.unbroken ∙ ap (λ (r : Result (Unit {0}) Fault). (ideally (λ _. Written) r, t)) (writing_same a v eh en ew) in
-      ap (λ (r : Answer × P). r.0 ∷ answers (plain m) l cs r.1) one
+      ap (λ (r : Answer × P). r.0 ∷ answers (performed (plain m) l) cs r.1) one
       ∙ ap (λ (rest : List Answer). ideally (λ _. Written) (writing h n w a v) ∷ rest)
       (loyal_answers h n w (written n w xs a v) cs t d.loyal (d.height_is ∙ eh) (q.2.size_same ∙ en) (d.width_is ∙ ew) (d.cells_are ∙ written_same a v en ew ex))
   loyal_answers h n w xs (Read a ∷ cs) s i eh en ew ex =
@@ -58,13 +59,13 @@ module _ (m : Meaning) (keeps : Keeps m) {T V : Type 0} (l : T → Tallying V) (
       let t = q.0 in let d = q.2.holds in
       let one : performed (plain m) l (Read a) s ≡ (ideally Value (reading h n xs a), t) =
       ap (told Value) q.1 ∙ told_ideally Value _ t d.loyal.unbroken ∙ ap (λ (r : Result ℕ Fault). (ideally Value r, t)) (reading_same a eh en ex) in
-      ap (λ (r : Answer × P). r.0 ∷ answers (plain m) l cs r.1) one
+      ap (λ (r : Answer × P). r.0 ∷ answers (performed (plain m) l) cs r.1) one
       ∙ ap (λ (rest : List Answer). ideally Value (reading h n xs a) ∷ rest)
       (loyal_answers h n w xs cs t d.loyal (d.height_is ∙ eh) (q.2.size_same ∙ en) (d.width_is ∙ ew) (d.cells_are ∙ ex))
   loyal_answers h n w xs (Sweep ∷ cs) s i eh en ew ex =
       let q = sweeps_is m keeps l laws s i in
       let t = q.0 in let d = q.2.holds in
-      ap (λ (o : Outcome Fault (Unit {0}) P). (told (λ _. Passed) o).0 ∷ answers (plain m) l cs (told (λ _. Passed) o).1) q.1
+      ap (λ (o : Outcome Fault (Unit {0}) P). (told (λ _. Passed) o).0 ∷ answers (performed (plain m) l) cs (told (λ _. Passed) o).1) q.1
       ∙ ap (λ (rest : List Answer). Passed ∷ rest)
       (loyal_answers h n w xs cs t d.loyal (d.height_is ∙ eh) (q.2.size_same ∙ en) (d.width_is ∙ ew) (d.cells_are ∙ ex))
 

@@ -1,5 +1,5 @@
 -- What the calls of a checked memory do to its history.
-use Rattle.std.proofs.Common.{◌≡◌, ℕ, zero, suc, ◌+◌, ◌/◌, ◌^◌, ◌<◌, ◌≤◌, Bool, true, false, cond, eqb, ltb, leb, ◌⊎◌, List, [], ◌∷◌, ◌++◌, length, None, Ok, Err, Option, Result, unwrap_or, sym, refl, ap, ◌∙◌, subst, inl, inr, append_assoc, append-nil, mod-eq_of_lt, arith, ltb-true, leb-true}
+use Rattle.std.proofs.Common.{◌≡◌, ℕ, zero, suc, ◌+◌, ◌/◌, ◌^◌, ◌<◌, ◌≤◌, Bool, true, false, cond, nat_eq, nat_lt, nat_le, ◌⊎◌, List, [], ◌∷◌, ◌++◌, length, None, Ok, Err, Option, Result, unwrap_or, sym, refl, ap, ◌∙◌, subst, inl, inr, append_assoc, append-nil, mod-eq_of_lt, arith, ltb-true, leb-true}
 use native.Mathlib.Nat.{div-eq_of_lt}
 use lib.Arith.{digits_div, digits_mod}
 use borrow.Author.Tests.{eqb-false}
@@ -89,7 +89,7 @@ module _ (m : Meaning) {T V : Type 0} (l : T → Tallying V) where
       go (Err f) z = ([], sym (append-nil s.store.history), tt)
 
   grows_examined : (a x : ℕ) (s : W) → Grows s (examined (watched m) l a x s).1
-  grows_examined a x s = go (ltb x (2 ^ (s.width + 20))) (leb (stamp_of s.width x) s.clock) _ _ _
+  grows_examined a x s = go (nat_lt x (2 ^ (s.width + 20))) (nat_le (stamp_of s.width x) s.clock) _ _ _
     where
       go : (p q : Bool) (v : V) (f g : Fault) → Grows s (cond {A = Outcome Fault ℕ W} p (cond q (Ok (value_of s.width x), at_read s v) (Err f, s)) (Err g, s)).1
       go true true v f g = grows_refl s
@@ -135,7 +135,7 @@ module _ (m : Meaning) {T V : Type 0} (l : T → Tallying V) where
   fetched : (s : W) (a v : ℕ) (s₁ : W) → fetch (watched m) l a s ≡ (Ok v, s₁) → Fetched s a v s₁
   fetched s a v s₁ h = go (m.read s.store.below a).0 (m.read s.store.below a).1 h
     where
-      tests : (x : ℕ) (z : m.State) (p q : Bool) → ltb x (2 ^ (s.width + 20)) ≡ p → leb (stamp_of s.width x) s.clock ≡ q → (f g : Fault) (y y' : W) → ◌≡◌ {A = Outcome Fault ℕ W} (cond p (cond q (Ok (value_of s.width x), after_fetch s a x z) (Err f, y)) (Err g, y')) (Ok v, s₁) → Fetched s a v s₁
+      tests : (x : ℕ) (z : m.State) (p q : Bool) → nat_lt x (2 ^ (s.width + 20)) ≡ p → nat_le (stamp_of s.width x) s.clock ≡ q → (f g : Fault) (y y' : W) → ◌≡◌ {A = Outcome Fault ℕ W} (cond p (cond q (Ok (value_of s.width x), after_fetch s a x z) (Err f, y)) (Err g, y')) (Ok v, s₁) → Fetched s a v s₁
       tests x z true true lo ea f g y y' h =
           let e : ◌≡◌ {A = Result ℕ Fault} (Ok (value_of s.width x)) (Ok v) = ap (λ (o : Outcome Fault ℕ W). o.0) h in
           record { word = x; left = z; low = ltb-true _ _ lo; early = leb-true _ _ ea; value_is = cc; left_is = ap (λ (o : Outcome Fault ℕ W). o.1) h }
@@ -143,7 +143,7 @@ module _ (m : Meaning) {T V : Type 0} (l : T → Tallying V) where
       tests x z false q lo ea f g y y' h = absurd (never g v y' s₁ h)
 
       go : (r : Result ℕ Fault) (z : m.State) → and_then (on_store (watched m) l s (watching s.store.history (did_read a) (r, z))) (examined (watched m) l a) ≡ (Ok v, s₁) → Fetched s a v s₁
-      go (Ok x) z h = tests x z (ltb x (2 ^ (s.width + 20))) (leb (stamp_of s.width x) s.clock) refl refl _ _ _ _ h
+      go (Ok x) z h = tests x z (nat_lt x (2 ^ (s.width + 20))) (nat_le (stamp_of s.width x) s.clock) refl refl _ _ _ _ h
       go (Err f) z h = absurd (never f v _ s₁ h)
 
   abbrev after_write : W → ℕ → ℕ → m.State → W
@@ -520,13 +520,13 @@ module _ (m : Meaning) {T V : Type 0} (l : T → Tallying V) where
         go (Err f) s₁ e = fails f s₁ h₁ one (grown_trail h₁ s s₁ i (subst (λ (o : Outcome Fault ℕ W). Grows s o.1) e (grows_turn a new s)))
 
     pub visit_is : (h : Hist) (s : W) (a : ℕ) (new : Option ℕ) → Held h s → a < n → ((x : ℕ) → x < 2 ^ w → unwrap_or new x < 2 ^ w) → Came h a new (visit (watched m) l a new s).0 (visit (watched m) l a new s).1
-    visit_is h s a new i la narrow_new = go (eqb s.clock clock_end) refl
+    visit_is h s a new i la narrow_new = go (nat_eq s.clock clock_end) refl
       where
         swept_first : {r : Result (Unit {0}) Fault} {s₁ : W} → Ended h r s₁ → Came h a new (and_then (r, s₁) (turned (watched m) l a new)).0 (and_then (r, s₁) (turned (watched m) l a new)).1
         swept_first (passes s₁ k) = came h (close h k.touched) s₁ a new (sweeps_first h k.touched k.faultless) (inr (k.touched, refl)) k.held (omega (arith, k.at_zero)) la narrow_new
         swept_first (fails f s₁ h₁ one tr) = fails f s₁ h₁ one tr
 
-        go : (p : Bool) → eqb s.clock clock_end ≡ p →
+        go : (p : Bool) → nat_eq s.clock clock_end ≡ p →
             let o : Outcome Fault ℕ W = and_then (cond {A = Outcome Fault (Unit {0}) W} p (sweep_all (watched m) l s) (Ok tt, s)) (turned (watched m) l a new) in
             Came h a new o.0 o.1
         go true q = swept_first (sweep_is h s i)

@@ -1,5 +1,5 @@
 -- What a memory check does to a store: cells read and then written, in epochs.
-use Rattle.std.proofs.Common.{◌≡◌, ℕ, zero, suc, ◌+◌, ◌^◌, ◌<◌, ◌≤◌, false, cond, eqb, ◌≢◌, List, [], ◌∷◌, ◌++◌, refl, ap, inl, inr, arith, eq-eqb, ne_eqb}
+use Rattle.std.proofs.Common.{◌≡◌, ℕ, zero, suc, ◌+◌, ◌^◌, ◌<◌, ◌≤◌, false, cond, nat_eq, ◌≢◌, List, [], ◌∷◌, ◌++◌, refl, ap, inl, inr, arith, eq-eqb, ne_eqb}
 use Rattle.std.proofs.lemmas.Bool.{cases_eq}
 use Rattle.memory_laws.specs.Checked.{record_of}
 use Rattle.memory_laws.specs.History.{update, count, Same}
@@ -27,7 +27,7 @@ writes (t ∷ ts) = record_of t.cell t.put ∷ writes ts
 -- how many reads did not give the word last written to their cell
 abbrev pub stale : (ℕ → ℕ) → List Touch → ℕ
 stale last [] = 0
-stale last (t ∷ ts) = cond (eqb t.got (last t.cell)) 0 1 + stale (update last t.cell t.put) ts
+stale last (t ∷ ts) = cond (nat_eq t.got (last t.cell)) 0 1 + stale (update last t.cell t.put) ts
 
 abbrev pub words_after : (ℕ → ℕ) → List Touch → ℕ → ℕ
 words_after last [] = last
@@ -84,7 +84,7 @@ pub present_above : (last : ℕ → ℕ) (a w k : ℕ) → k ≤ a → present (
 present_above last a w zero h = refl
 present_above last a w (suc k) h =
     let ih : present (update last a w) k ≡ present last k = present_above last a w k (omega arith) in
-    let e : eqb k a ≡ false = ne_eqb k a (omega arith) in
+    let e : nat_eq k a ≡ false = ne_eqb k a (omega arith) in
     grind arith
 
 pub update_same : (last : ℕ → ℕ) (a w : ℕ) → update last a w a ≡ w
@@ -93,10 +93,10 @@ update_same last a w = rw (eq-eqb a a refl)
 pub update_other : (last : ℕ → ℕ) (a w b : ℕ) → b ≢ a → update last a w b ≡ last b
 update_other last a w b ne = rw (ne_eqb b a ne)
 
-pub present_update : (r : ℕ) (last : ℕ → ℕ) (a w n : ℕ) → a < n → count r (present (update last a w) n) + cond (eqb (record_of a (last a)) r) 1 0 ≡ count r (present last n) + cond (eqb (record_of a w) r) 1 0
+pub present_update : (r : ℕ) (last : ℕ → ℕ) (a w n : ℕ) → a < n → count r (present (update last a w) n) + cond (nat_eq (record_of a (last a)) r) 1 0 ≡ count r (present last n) + cond (nat_eq (record_of a w) r) 1 0
 present_update r last a w zero h = absurd (omega arith)
 present_update r last a w (suc k) h =
-    let ih : a < k → count r (present (update last a w) k) + cond (eqb (record_of a (last a)) r) 1 0 ≡ count r (present last k) + cond (eqb (record_of a w) r) 1 0 = present_update r last a w k in
+    let ih : a < k → count r (present (update last a w) k) + cond (nat_eq (record_of a (last a)) r) 1 0 ≡ count r (present last k) + cond (nat_eq (record_of a w) r) 1 0 = present_update r last a w k in
     elim (cases_eq a k) [
       | inl p ↦ rw (← p, update_same last a w, present_above last a w a (omega arith)) (omega arith)
       | inr ne ↦ let lt : a < k = omega arith in let d : k ≢ a = omega arith in rw (update_other last a w k d) (omega (arith, ih lt))
@@ -116,7 +116,7 @@ balance r n last [] h = omega arith
 balance r n last (t ∷ ts) h =
     omega (arith, balance r n (update last t.cell t.put) ts h.1, present_update r last t.cell t.put n h.0)
 
-pub present_new : (r : ℕ) (last : ℕ → ℕ) (a k w : ℕ) → a ≡ k → count r (present (update last a w) (suc k)) ≡ cond (eqb (record_of a w) r) 1 0 + count r (present last k)
+pub present_new : (r : ℕ) (last : ℕ → ℕ) (a k w : ℕ) → a ≡ k → count r (present (update last a w) (suc k)) ≡ cond (nat_eq (record_of a w) r) 1 0 + count r (present last k)
 present_new r last a k w p = rw (← p, update_same last a w, present_above last a w a (omega arith))
 
 pub swept : (r k n : ℕ) (last : ℕ → ℕ) (ts : List Touch) → Sweeps k n ts → count r (present (words_after last ts) n) ≡ count r (present last k) + count r (writes ts)

@@ -1,18 +1,19 @@
 -- The runs of a memory that is watched: what each call did, and what is promised of every list of calls.
-use Rattle.std.proofs.Common.{◌≡◌, ℕ, zero, suc, ◌^◌, ◌<◌, ◌≤◌, cond, ltb, ◌⊎◌, List, [], ◌∷◌, length, get_or, take, drop, set, Some, None, Err, Option, Result, sym, refl, ap, ◌∙◌, subst, inl, inr, ⊎_elim, arith, length-set, get_or-set_other, get_or-set_same}
+use Rattle.std.proofs.Common.{◌≡◌, ℕ, zero, suc, ◌^◌, ◌<◌, ◌≤◌, cond, nat_lt, ◌⊎◌, List, [], ◌∷◌, length, slice_index_or, set, Some, None, Err, Option, Result, sym, refl, ap, ◌∙◌, subst, inl, inr, ⊎_elim, arith, length-set, get_or-set_other, get_or-set_same}
 use Rattle.std.proofs.lemmas.Bool.{cases_eq, cases_lt, lt-ltb, le-ltb}
 use Rattle.parts.specs.declared.fault.Fault.{Fault}
 use Rattle.parts.specs.declared.fault.Cause.TheVariants.{NoSuchCell, WordTooWide}
 use Rattle.parts.specs.Outcomes.{Outcome, and_then, settled, unless_broken}
 use Rattle.parts.specs.Meaning.{Meaning, fault, written}
+use Rattle.parts.specs.Runs.{after}
 use Rattle.parts.specs.Tallying.{Tallying, Laws}
 use Rattle.memory_laws.specs.declared.call.Call.{Call}
 use Rattle.memory_laws.specs.declared.call.Call.TheVariants.{Write, Read, Sweep}
 use Rattle.memory_laws.specs.declared.call.Answer.{Answer}
 use Rattle.memory_laws.specs.declared.call.Answer.TheVariants.{Written, Value, Passed, Declined, Failed}
-use Rattle.memory_laws.specs.Checked.{Mem, at_broken, height, visit, done, replaced, reads, writes, sweeps, sweep_all}
+use Rattle.memory_laws.specs.Checked.{Mem, at_broken, height, visit, done, replaced, sweep_all}
 use Rattle.memory_laws.specs.History.{watched, update}
-use Rattle.memory_laws.specs.Runs.{told, refused, performed, answers, after, ideal_words}
+use Rattle.memory_laws.specs.Runs.{told, refused, performed, ideal_words}
 use Rattle.memory_laws.proofs.CheckedKeeps.{unbroken_is}
 use Rattle.memory_laws.proofs.Touches.{Touch, stale, words_after, update_same, update_other}
 use Rattle.memory_laws.proofs.Log.{Hist, all, push, close, zeros}
@@ -21,26 +22,6 @@ use Rattle.memory_laws.proofs.Remembers.Ended.{passes, fails}
 use Rattle.memory_laws.proofs.Remembers.Came.{visits, fails as strays}
 use Rattle.memory_laws.proofs.Remembers.May.{stays, sweeps_first}
 use Rattle.memory_laws.proofs.Lasting.{Later, later_refl, later_trans, later_push, later_close, Noted, noted_close, pushed}
-
--- a list of calls, cut after the first i
-module _ {T V : Type 0} (b : Rattle.memory_laws.specs.Checked.Base) (l : T → Tallying V) where
-  pub answer_at : (cs : List Call) (s : Mem b l) (i : ℕ) → i < length cs → get_or (answers b l cs s) i Passed ≡ (performed b l (get_or cs i Sweep) (after b l (take i cs) s)).0
-  unfolding answers after
-  answer_at [] s i lt = absurd (omega arith)
-  answer_at (c ∷ cs) s zero lt = refl
-  answer_at (c ∷ cs) s (suc i) lt = answer_at cs (performed b l c s).1 i (omega arith)
-
-  pub after_one : (cs : List Call) (s : Mem b l) (i : ℕ) → i < length cs → after b l (take (suc i) cs) s ≡ (performed b l (get_or cs i Sweep) (after b l (take i cs) s)).1
-  unfolding after
-  after_one [] s i lt = absurd (omega arith)
-  after_one (c ∷ cs) s zero lt = refl
-  after_one (c ∷ cs) s (suc i) lt = after_one cs (performed b l c s).1 i (omega arith)
-
-  pub after_rest : (cs : List Call) (s : Mem b l) (i : ℕ) → after b l cs s ≡ after b l (drop i cs) (after b l (take i cs) s)
-  unfolding after
-  after_rest cs s zero = refl
-  after_rest [] s (suc i) = refl
-  after_rest (c ∷ cs) s (suc i) = after_rest cs (performed b l c s).1 i
 
 -- A call that has a result is no decline.
 refused_none : (b : Option Fault) (f : Fault) → b ≡ None → refused b f ≡ Declined f
@@ -97,12 +78,12 @@ module _ (m : Meaning) {T V : Type 0} (l : T → Tallying V) (laws : (t : T) →
 
     -- what an unbroken memory does
     abbrev read_body : ℕ → Outcome Fault ℕ W
-    read_body a = cond (ltb a s.size) (settled at_broken (visit (watched m) l a None s)) (Err (fault NoSuchCell (height (watched m) l s) a), s)
+    read_body a = cond (nat_lt a s.size) (settled at_broken (visit (watched m) l a None s)) (Err (fault NoSuchCell (height (watched m) l s) a), s)
 
     abbrev write_body : ℕ → ℕ → Outcome Fault (Unit {0}) W
     write_body a v =
-        cond (ltb a s.size)
-        (cond (ltb v (2 ^ s.width)) (settled at_broken (replaced (watched m) l a v s)) (Err (fault WordTooWide (height (watched m) l s) a), s))
+        cond (nat_lt a s.size)
+        (cond (nat_lt v (2 ^ s.width)) (settled at_broken (replaced (watched m) l a v s)) (Err (fault WordTooWide (height (watched m) l s) a), s))
         (Err (fault NoSuchCell (height (watched m) l s) a), s)
 
     pub did : (c : Call) → Did h c (performed (watched m) l c s).0 (performed (watched m) l c s).1
@@ -148,10 +129,10 @@ module _ (m : Meaning) {T V : Type 0} (l : T → Tallying V) (laws : (t : T) →
   broken_performed (Write a v) s f e = broken_told s f e (λ _. Written) _
   broken_performed Sweep s f e = broken_told s f e (λ _. Passed) _
 
-  pub broken_after : (cs : List Call) (s : W) (f : Fault) → s.broken ≡ Some f → after (watched m) l cs s ≡ s
+  pub broken_after : (cs : List Call) (s : W) (f : Fault) → s.broken ≡ Some f → after (performed (watched m) l) cs s ≡ s
   unfolding after
   broken_after [] s f e = refl
-  broken_after (c ∷ cs) s f e = ap (λ (r : Answer × W). after (watched m) l cs r.1) (broken_performed c s f e) ∙ broken_after cs s f e
+  broken_after (c ∷ cs) s f e = ap (λ (r : Answer × W). after (performed (watched m) l) cs r.1) (broken_performed c s f e) ∙ broken_after cs s f e
 
   later_one : (h h₁ : Hist) → One h h₁ → Later h h₁
   later_one h h₁ (inl p) = subst (λ (x : Hist). Later h x) (sym p) (later_refl h)
@@ -181,10 +162,10 @@ module _ (m : Meaning) {T V : Type 0} (l : T → Tallying V) (laws : (t : T) →
         | inl p ↦
             let in_xs : a < length xs = omega arith in
             ap (λ (c : ℕ). val (update f c u.put b)) k.cell_is ∙ ap (λ (c : ℕ). val (update f a u.put c)) p ∙ ap val (update_same f a u.put) ∙ k.put_value
-            ∙ sym (get_or-set_same xs a v 0 in_xs) ∙ ap (λ (c : ℕ). get_or (set xs a v) c 0) (sym p) ∙ ap (λ (zs : List ℕ). get_or zs b 0) (sym (is z))
+            ∙ sym (get_or-set_same xs a v 0 in_xs) ∙ ap (λ (c : ℕ). slice_index_or (set xs a v) c 0) (sym p) ∙ ap (λ (zs : List ℕ). slice_index_or zs b 0) (sym (is z))
         | inr ne ↦
             ap (λ (c : ℕ). val (update f c u.put b)) k.cell_is ∙ ap val (update_other f a u.put b ne) ∙ noted_may xs k.may note q.0 b lb
-            ∙ sym (get_or-set_other xs a b v 0 ne) ∙ ap (λ (zs : List ℕ). get_or zs b 0) (sym (is z))
+            ∙ sym (get_or-set_other xs a b v 0 ne) ∙ ap (λ (zs : List ℕ). slice_index_or zs b 0) (sym (is z))
       ]
 
   -- the state after some calls: unbroken with the ideal words, or broken with a trail
@@ -202,13 +183,13 @@ module _ (m : Meaning) {T V : Type 0} (l : T → Tallying V) (laws : (t : T) →
   ideal_step xs Sweep cs = refl
 
   -- what a reading that is true leaves of the ideal words: they are set to what they are
-  set_same : (xs : List ℕ) (a v : ℕ) → a < length xs → get_or xs a 0 ≡ v → xs ≡ set xs a v
+  set_same : (xs : List ℕ) (a v : ℕ) → a < length xs → slice_index_or xs a 0 ≡ v → xs ≡ set xs a v
   set_same [] a v lt e = absurd (omega arith)
   set_same (x ∷ xs) zero v lt e = ap (λ (y : ℕ). y ∷ xs) e
   set_same (x ∷ xs) (suc a) v lt e = ap (λ (k : List ℕ). x ∷ k) (set_same xs a v (omega arith) e)
 
   -- a reading that is true answers the ideal word
-  pub read_ideal : (h : Hist) (a v : ℕ) (s₁ : W) (xs : List ℕ) → a < n → (k : Visiting h a None v s₁) → Notes xs h → stale zeros (all (push k.before k.touch)) ≡ 0 → v ≡ get_or xs a 0
+  pub read_ideal : (h : Hist) (a v : ℕ) (s₁ : W) (xs : List ℕ) → a < n → (k : Visiting h a None v s₁) → Notes xs h → stale zeros (all (push k.before k.touch)) ≡ 0 → v ≡ slice_index_or xs a 0
   read_ideal h a v s₁ xs la k note z =
       let q = pushed k.before k.touch z in
       let val : ℕ → ℕ = value m l laws n w t narrow in
@@ -231,16 +212,16 @@ module _ (m : Meaning) {T V : Type 0} (l : T → Tallying V) (laws : (t : T) →
   step h xs note len (did_decline c f s₁ i no_sweep e) = subst (λ (ys : List ℕ). Reached h ys s₁) (sym (e xs)) (well h (later_refl h) i note len)
   step h xs note len (did_break c f s₁ h₁ one tr b) = ill f h₁ b (later_one h h₁ one) tr
 
-  pub reach : (cs : List Call) (s : W) (h : Hist) (xs : List ℕ) → Holding h s → Notes xs h → length xs ≡ n → Reached h (ideal_words n w xs cs) (after (watched m) l cs s)
+  pub reach : (cs : List Call) (s : W) (h : Hist) (xs : List ℕ) → Holding h s → Notes xs h → length xs ≡ n → Reached h (ideal_words n w xs cs) (after (performed (watched m) l) cs s)
   unfolding after
   reach [] s h xs i note len = well h (later_refl h) i note len
   reach (c ∷ cs) s h xs i note len = go (step h xs note len (did h s i c)) (reach cs (performed (watched m) l c s).1)
     where
       go : Reached h (ideal_words n w xs (c ∷ [])) (performed (watched m) l c s).1 →
-          ((h₁ : Hist) (ys : List ℕ) → Holding h₁ (performed (watched m) l c s).1 → Notes ys h₁ → length ys ≡ n → Reached h₁ (ideal_words n w ys cs) (after (watched m) l cs (performed (watched m) l c s).1)) →
-          Reached h (ideal_words n w xs (c ∷ cs)) (after (watched m) l cs (performed (watched m) l c s).1)
+          ((h₁ : Hist) (ys : List ℕ) → Holding h₁ (performed (watched m) l c s).1 → Notes ys h₁ → length ys ≡ n → Reached h₁ (ideal_words n w ys cs) (after (performed (watched m) l) cs (performed (watched m) l c s).1)) →
+          Reached h (ideal_words n w xs (c ∷ cs)) (after (performed (watched m) l) cs (performed (watched m) l c s).1)
       go (well h₁ p j k e) rest =
-          subst (λ (ys : List ℕ). Reached h ys (after (watched m) l cs (performed (watched m) l c s).1)) (ideal_step xs c cs)
+          subst (λ (ys : List ℕ). Reached h ys (after (performed (watched m) l) cs (performed (watched m) l c s).1)) (ideal_step xs c cs)
           (reached_on h h₁ _ _ p (rest h₁ (ideal_words n w xs (c ∷ [])) j k e))
       go (ill f h₁ b p tr) rest =
           subst (λ (x : W). Reached h (ideal_words n w xs (c ∷ cs)) x) (sym (broken_after cs (performed (watched m) l c s).1 f b)) (ill f h₁ b p tr)

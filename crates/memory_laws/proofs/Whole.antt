@@ -1,10 +1,12 @@
 -- What is promised of every list of calls on a memory just made, over any store.
-use Rattle.std.proofs.Common.{◌≡◌, ℕ, zero, suc, ◌+◌, ◌^◌, ◌<◌, ◌≤◌, ◌≢◌, ◌⊎◌, List, [], ◌∷◌, ◌++◌, length, get_or, take, drop, replicate, Some, None, Ok, Err, Result, sym, refl, ap, ◌∙◌, subst, inl, inr, append-nil, zero-add, arith}
+use Rattle.std.proofs.Common.{◌≡◌, ℕ, zero, suc, ◌+◌, ◌^◌, ◌<◌, ◌≤◌, ◌≢◌, ◌⊎◌, List, [], ◌∷◌, ◌++◌, length, slice_index_or, take, drop, replicate, Some, None, Ok, Err, Result, sym, refl, ap, ◌∙◌, subst, inl, inr, append-nil, zero-add, arith}
 use native.Mathlib.Nat.{zero-mod}
 use Rattle.std.proofs.lemmas.List.{get_or-replicate, length-replicate}
 use Rattle.parts.specs.declared.fault.Fault.{Fault}
 use Rattle.parts.specs.Outcomes.{Outcome, up_to, settled}
 use Rattle.parts.specs.Meaning.{Meaning}
+use Rattle.parts.specs.Runs.{answers, after}
+use Rattle.parts.proofs.Runs.{answer_at, after_one, after_rest}
 use Rattle.parts.specs.Tallying.{Tallying, Laws}
 use Rattle.parts.proofs.Steps.{both_answered}
 use Rattle.memory_laws.specs.declared.call.Call.{Call}
@@ -13,14 +15,14 @@ use Rattle.memory_laws.specs.declared.call.Answer.{Answer}
 use Rattle.memory_laws.specs.declared.call.Answer.TheVariants.{Value, Passed, Failed}
 use Rattle.memory_laws.specs.Checked.{Mem, record_of, stamp_of, at_broken, put, cleared}
 use Rattle.memory_laws.specs.History.{Event, did_write, sweep_begins, sweep_ends, taken, watched, misread, epochs, no_bags, Same}
-use Rattle.memory_laws.specs.Runs.{performed, accepted, answers, after, ideal_words}
+use Rattle.memory_laws.specs.Runs.{performed, accepted, ideal_words}
 use Rattle.memory_laws.proofs.Bags.{tallied, tallied_more}
 use Rattle.memory_laws.proofs.Touches.{Touch, Epoch, stale, touches, Each, Agree, Sound, Sweeps}
 use Rattle.memory_laws.proofs.Offline.{offline_from, one_shows_from}
 use Rattle.memory_laws.proofs.Log.{Hist, all, fresh, push, close, zeros, flat, bags, bags_length, made_from, made_records, made_same, misread_flat, misread_cut, epochs_flat, Endless, none_among, whole_sweep}
 use Rattle.memory_laws.proofs.Remembers.{Held, Trail, held_trail, Visited, Swept, put_is, Grows, grows_cleared}
 use Rattle.memory_laws.proofs.Lasting.{Later, prefix_stale, each_take, agree_take, same_take}
-use Rattle.memory_laws.proofs.Watching.{answer_at, after_one, after_rest, Did, did, Reached, reach, Notes, broken_performed, broken_after, read_ideal, read_notes}
+use Rattle.memory_laws.proofs.Watching.{Did, did, Reached, reach, Notes, broken_performed, broken_after, read_ideal, read_notes}
 use Rattle.memory_laws.proofs.Watching.Did.{did_write as done_write, did_read as done_read, did_sweep, did_decline, did_break}
 use Rattle.memory_laws.proofs.Watching.Reached.{well, ill}
 
@@ -33,23 +35,23 @@ module _ (m : Meaning) {T V : Type 0} (l : T → Tallying V) (laws : (t : T) →
 
   -- what is promised of a run from a state, for a memory of n cells of w bits
   pub record Kept (n w : ℕ) (s : W) (calls : List Call) : Type 0 where
-    pub offline : (i a v : ℕ) → i < length calls → get_or calls i Sweep ≡ Read a → get_or (answers (watched m) l calls s) i Passed ≡ Value v →
-        ((j : ℕ) → j ≤ length (epochs (events (after (watched m) l (take (suc i) calls) s))) →
-        (j < length (epochs (events (after (watched m) l calls s)))) × Same (get_or (epochs (events (after (watched m) l calls s))) j no_bags).got (get_or (epochs (events (after (watched m) l calls s))) j no_bags).put) →
-        (a < n) × (v ≡ get_or (ideal_words n w (replicate n 0) (take i calls)) a 0)
-    pub one_lie : (i : ℕ) → i < length calls → get_or calls i Sweep ≡ Sweep → misread (events (after (watched m) l (take (suc i) calls) s)) ≡ 1 →
-        (f : Fault) × (get_or (answers (watched m) l calls s) i Passed ≡ Failed f)
-    pub one_lie_ends : (i : ℕ) → i < length calls → (before since : List Event) → events (after (watched m) l (take (suc i) calls) s) ≡ before ++ sweep_ends ∷ since →
-        misread before ≡ 1 → accepted (get_or (answers (watched m) l calls s) i Passed) → ⊥
-    pub whole_sweeps : (before since : List Event) → events (after (watched m) l calls s) ≡ before ++ sweep_ends ∷ since →
+    pub offline : (i a v : ℕ) → i < length calls → slice_index_or calls i Sweep ≡ Read a → slice_index_or (answers (performed (watched m) l) calls s) i Passed ≡ Value v →
+        ((j : ℕ) → j ≤ length (epochs (events (after (performed (watched m) l) (take (suc i) calls) s))) →
+        (j < length (epochs (events (after (performed (watched m) l) calls s)))) × Same (slice_index_or (epochs (events (after (performed (watched m) l) calls s))) j no_bags).got (slice_index_or (epochs (events (after (performed (watched m) l) calls s))) j no_bags).put) →
+        (a < n) × (v ≡ slice_index_or (ideal_words n w (replicate n 0) (take i calls)) a 0)
+    pub one_lie : (i : ℕ) → i < length calls → slice_index_or calls i Sweep ≡ Sweep → misread (events (after (performed (watched m) l) (take (suc i) calls) s)) ≡ 1 →
+        (f : Fault) × (slice_index_or (answers (performed (watched m) l) calls s) i Passed ≡ Failed f)
+    pub one_lie_ends : (i : ℕ) → i < length calls → (before since : List Event) → events (after (performed (watched m) l) (take (suc i) calls) s) ≡ before ++ sweep_ends ∷ since →
+        misread before ≡ 1 → accepted (slice_index_or (answers (performed (watched m) l) calls s) i Passed) → ⊥
+    pub whole_sweeps : (before since : List Event) → events (after (performed (watched m) l) calls s) ≡ before ++ sweep_ends ∷ since →
         (earlier : List Event) × (words : List (ℕ × ℕ)) × (length words ≡ n) × (before ≡ earlier ++ (sweep_begins ∷ taken 0 words))
 
   -- of a memory that the making broke
   module _ (n w : ℕ) (s : W) (f : Fault) (e : s.broken ≡ Some f) (quiet : Endless (events s)) (t : T) (calls : List Call) where
-    broken_answer : (i : ℕ) → i < length calls → get_or (answers (watched m) l calls s) i Passed ≡ Failed f
+    broken_answer : (i : ℕ) → i < length calls → slice_index_or (answers (performed (watched m) l) calls s) i Passed ≡ Failed f
     broken_answer i lt =
-        answer_at (watched m) l calls s i lt ∙ ap (λ (x : W). (performed (watched m) l (get_or calls i Sweep) x).0) (broken_after m l laws 0 0 t (omega arith) (take i calls) s f e)
-        ∙ ap (λ (r : Answer × W). r.0) (broken_performed m l laws 0 0 t (omega arith) (get_or calls i Sweep) s f e)
+        answer_at (performed (watched m) l) calls s i Sweep Passed lt ∙ ap (λ (x : W). (performed (watched m) l (slice_index_or calls i Sweep) x).0) (broken_after m l laws 0 0 t (omega arith) (take i calls) s f e)
+        ∙ ap (λ (r : Answer × W). r.0) (broken_performed m l laws 0 0 t (omega arith) (slice_index_or calls i Sweep) s f e)
 
     kept_broken : Kept n w s calls
     kept_broken = record {
@@ -115,7 +117,7 @@ module _ (m : Meaning) {T V : Type 0} (l : T → Tallying V) (laws : (t : T) →
 
     module _ (s : W) (i₀ : Holding fresh s) (calls : List Call) where
       abbrev at : ℕ → W
-      at i = after (watched m) l (take i calls) s
+      at i = after (performed (watched m) l) (take i calls) s
 
       abbrev ideal_at : ℕ → List ℕ
       ideal_at i = ideal_words n w (replicate n 0) (take i calls)
@@ -124,52 +126,52 @@ module _ (m : Meaning) {T V : Type 0} (l : T → Tallying V) (laws : (t : T) →
       reached i = reach m l laws n w t narrow (take i calls) s fresh (replicate n 0) i₀ first_notes (length-replicate {A = ℕ} n 0)
 
       -- the answer to a call on a broken memory
-      ill_answer : (i : ℕ) (f : Fault) → i < length calls → (at i).broken ≡ Some f → get_or (answers (watched m) l calls s) i Passed ≡ Failed f
-      ill_answer i f lt b = answer_at (watched m) l calls s i lt ∙ ap (λ (r : Answer × W). r.0) (broken_performed m l laws n w t narrow (get_or calls i Sweep) (at i) f b)
+      ill_answer : (i : ℕ) (f : Fault) → i < length calls → (at i).broken ≡ Some f → slice_index_or (answers (performed (watched m) l) calls s) i Passed ≡ Failed f
+      ill_answer i f lt b = answer_at (performed (watched m) l) calls s i Sweep Passed lt ∙ ap (λ (r : Answer × W). r.0) (broken_performed m l laws n w t narrow (slice_index_or calls i Sweep) (at i) f b)
 
-      reading : (i a v : ℕ) → i < length calls → get_or calls i Sweep ≡ Read a → get_or (answers (watched m) l calls s) i Passed ≡ Value v →
+      reading : (i a v : ℕ) → i < length calls → slice_index_or calls i Sweep ≡ Read a → slice_index_or (answers (performed (watched m) l) calls s) i Passed ≡ Value v →
           ((j : ℕ) → j ≤ length (epochs (events (at (suc i)))) →
-          (j < length (epochs (events (after (watched m) l calls s)))) × Same (get_or (epochs (events (after (watched m) l calls s))) j no_bags).got (get_or (epochs (events (after (watched m) l calls s))) j no_bags).put) →
-          Reached m l laws n w t narrow fresh (ideal_at i) (at i) → (a < n) × (v ≡ get_or (ideal_at i) a 0)
+          (j < length (epochs (events (after (performed (watched m) l) calls s)))) × Same (slice_index_or (epochs (events (after (performed (watched m) l) calls s))) j no_bags).got (slice_index_or (epochs (events (after (performed (watched m) l) calls s))) j no_bags).put) →
+          Reached m l laws n w t narrow fresh (ideal_at i) (at i) → (a < n) × (v ≡ slice_index_or (ideal_at i) a 0)
       reading i a v lt is answered same (ill f h₁ b p tr) = let q = ill_answer i f lt b in let z : ◌≡◌ {A = ℕ} 0 1 = cc in absurd (omega arith)
       reading i a v lt is answered same (well h₁ p j note len) =
-          let c = get_or calls i Sweep in
+          let c = slice_index_or calls i Sweep in
           let s₁ : W = (performed (watched m) l c (at i)).1 in
-          let d = read_did (did m l laws n w t narrow h₁ (at i) j c) a v is (sym (answer_at (watched m) l calls s i lt) ∙ answered) in
+          let d = read_did (did m l laws n w t narrow h₁ (at i) j c) a v is (sym (answer_at (performed (watched m) l) calls s i Sweep Passed lt) ∙ answered) in
           let la = d.0 in let k = d.1 in
           let h₂ = push k.before k.touch in
-          let here : at (suc i) ≡ s₁ = after_one (watched m) l calls s i lt in
-          let end : after (watched m) l calls s ≡ after (watched m) l (drop (suc i) calls) s₁ =
-          after_rest (watched m) l calls s (suc i) ∙ ap (after (watched m) l (drop (suc i) calls)) here in
+          let here : at (suc i) ≡ s₁ = after_one (performed (watched m) l) calls s i Sweep lt in
+          let end : after (performed (watched m) l) calls s ≡ after (performed (watched m) l) (drop (suc i) calls) s₁ =
+          after_rest (performed (watched m) l) calls s (suc i) ∙ ap (after (performed (watched m) l) (drop (suc i) calls)) here in
           let r = trail_of (reach m l laws n w t narrow (drop (suc i) calls) s₁ h₂ (ideal_at i) k.held (read_notes m l laws n w t narrow h₁ a v s₁ (ideal_at i) la len k note) len) in
           let h₃ = r.0 in
           let now : epochs (events (at (suc i))) ≡ bags (made_records 0 n) h₂.past = ap (λ (x : W). epochs (events x)) here ∙ trail_epochs h₂ s₁ (held_trail m l laws n w t narrow h₂ s₁ k.held) in
-          let then : epochs (events (after (watched m) l calls s)) ≡ bags (made_records 0 n) h₃.past = ap (λ (x : W). epochs (events x)) end ∙ trail_epochs h₃ _ r.2 in
+          let then : epochs (events (after (performed (watched m) l) calls s)) ≡ bags (made_records 0 n) h₃.past = ap (λ (x : W). epochs (events x)) end ∙ trail_epochs h₃ _ r.2 in
           let many : length (epochs (events (at (suc i)))) ≡ length h₂.past = ap length now ∙ bags_length (made_records 0 n) h₂.past in
           let more : length h₂.past < length h₃.past =
           let q = (same (length h₂.past) (omega arith)).0 in omega (arith, q, ap length then, bags_length (made_records 0 n) h₃.past) in
           let agree : Agree Same (made_records 0 n) (take (suc (length h₂.past)) h₃.past) =
           same_take (made_records 0 n) h₃.past (suc (length h₂.past))
-          (λ x lx. subst (λ (bs : List _). Same (get_or bs x no_bags).got (get_or bs x no_bags).put) then (same x (omega arith)).1) in
+          (λ x lx. subst (λ (bs : List _). Same (slice_index_or bs x no_bags).got (slice_index_or bs x no_bags).put) then (same x (omega arith)).1) in
           let none : stale zeros (touches (take (suc (length h₂.past)) h₃.past)) ≡ 0 =
           offline_from _ n zeros (made_records 0 n) (take (suc (length h₂.past)) h₃.past) low (made_same n) (each_take _ h₃.past (suc (length h₂.past)) r.2.past) agree in
           let true_so_far : stale zeros (all h₂) ≡ 0 = omega (arith, prefix_stale zeros h₂ h₃ r.1 more, none) in
           (la, read_ideal m l laws n w t narrow h₁ a v s₁ (ideal_at i) la k note true_so_far)
 
-      lying : (i : ℕ) → i < length calls → get_or calls i Sweep ≡ Sweep → misread (events (at (suc i))) ≡ 1 → Reached m l laws n w t narrow fresh (ideal_at i) (at i) →
-          (f : Fault) × (get_or (answers (watched m) l calls s) i Passed ≡ Failed f)
+      lying : (i : ℕ) → i < length calls → slice_index_or calls i Sweep ≡ Sweep → misread (events (at (suc i))) ≡ 1 → Reached m l laws n w t narrow fresh (ideal_at i) (at i) →
+          (f : Fault) × (slice_index_or (answers (performed (watched m) l) calls s) i Passed ≡ Failed f)
       lying i lt is one (ill f h₁ b p tr) = (f, ill_answer i f lt b)
       lying i lt is one (well h₁ p j note len) =
-          let c = get_or calls i Sweep in
+          let c = slice_index_or calls i Sweep in
           let s₁ : W = (performed (watched m) l c (at i)).1 in
           elim (sweep_did (did m l laws n w t narrow h₁ (at i) j c) is) [
             | inl k ↦
                 let h₂ = close h₁ k.touched in
                 let here : misread (events (at (suc i))) ≡ stale zeros (touches (take (length h₂.past) h₂.past)) =
-                ap (λ (x : W). misread (events x)) (after_one (watched m) l calls s i lt) ∙ ap misread k.held.log_is ∙ misread_flat n h₂
+                ap (λ (x : W). misread (events x)) (after_one (performed (watched m) l) calls s i Sweep lt) ∙ ap misread k.held.log_is ∙ misread_flat n h₂
                 ∙ ap (stale zeros) (all_epochs h₂ refl (take_whole h₂.past)) in
                 absurd (never_one h₂ s₁ k.held (length h₂.past) (sym here ∙ one))
-            | inr q ↦ (q.0, answer_at (watched m) l calls s i lt ∙ q.1)
+            | inr q ↦ (q.0, answer_at (performed (watched m) l) calls s i Sweep Passed lt ∙ q.1)
           ]
         where
           take_whole : {A : Type 0} (xs : List A) → take (length xs) xs ≡ xs
@@ -177,13 +179,13 @@ module _ (m : Meaning) {T V : Type 0} (l : T → Tallying V) (laws : (t : T) →
           take_whole (x ∷ xs) = ap (λ k. x ∷ k) (take_whole xs)
 
       ending : (i : ℕ) → i < length calls → (before since : List Event) → events (at (suc i)) ≡ before ++ sweep_ends ∷ since → misread before ≡ 1 →
-          accepted (get_or (answers (watched m) l calls s) i Passed) → Reached m l laws n w t narrow fresh (ideal_at i) (at i) → ⊥
+          accepted (slice_index_or (answers (performed (watched m) l) calls s) i Passed) → Reached m l laws n w t narrow fresh (ideal_at i) (at i) → ⊥
       ending i lt before since is one ok (ill f h₁ b p tr) = subst accepted (ill_answer i f lt b) ok
       ending i lt before since is one ok (well h₁ p j note len) =
-          let c = get_or calls i Sweep in
+          let c = slice_index_or calls i Sweep in
           let s₁ : W = (performed (watched m) l c (at i)).1 in
-          let d = accepted_did (did m l laws n w t narrow h₁ (at i) j c) (subst accepted (answer_at (watched m) l calls s i lt) ok) in
-          let here : flat n d.0 ≡ before ++ sweep_ends ∷ since = sym d.1.log_is ∙ ap events (sym (after_one (watched m) l calls s i lt)) ∙ is in
+          let d = accepted_did (did m l laws n w t narrow h₁ (at i) j c) (subst accepted (answer_at (performed (watched m) l) calls s i Sweep Passed lt) ok) in
+          let here : flat n d.0 ≡ before ++ sweep_ends ∷ since = sym d.1.log_is ∙ ap events (sym (after_one (performed (watched m) l) calls s i Sweep lt)) ∙ is in
           let q = misread_cut n d.0 before since here in
           never_one d.0 s₁ d.1 q.0 (sym q.1 ∙ one)
 

@@ -2,6 +2,7 @@
 use Rattle.std.specs.Prelude.{◌≡◌, ℕ, suc, ◌+◌, ◌-◌, ◌<◌, ◌≤◌, min, cond, List, [], ◌∷◌, ◌++◌, length, take, replicate, slice_index, slice_index_or}
 use Rattle.parts.specs.declared.fault.Fault.{Fault}
 use Rattle.parts.specs.Meaning.{Meaning}
+use Rattle.parts.specs.Runs.{answers, after}
 use Rattle.parts.specs.Tallying.{Tallying}
 use Rattle.memory_laws.specs.declared.call.Call.{Call}
 use Rattle.memory_laws.specs.declared.call.Call.TheVariants.{Read, Sweep}
@@ -9,7 +10,7 @@ use Rattle.memory_laws.specs.declared.call.Answer.{Answer}
 use Rattle.memory_laws.specs.declared.call.Answer.TheVariants.{Value, Passed, Failed}
 use Rattle.memory_laws.specs.Checked.{Mem, stamp_bits, checkable, opened}
 use Rattle.memory_laws.specs.History.{Event, sweep_begins, sweep_ends, taken, watched, misread, epochs, no_bags, Same}
-use Rattle.memory_laws.specs.Runs.{answers, after, accepted, ideal_words, ideal_answers}
+use Rattle.memory_laws.specs.Runs.{performed, accepted, ideal_words, ideal_answers}
 
 module _ (m : Meaning) {T V : Type 0} (l : T → Tallying V) (s : m.State) (t : T) where
   -- the memory just made over the store in the state s, whose calls are watched from the making on
@@ -17,10 +18,10 @@ module _ (m : Meaning) {T V : Type 0} (l : T → Tallying V) (s : m.State) (t : 
   start = opened (watched m) l (m.size s) (m.width s) (record { below = s; history = [] }) t
 
   abbrev pub all_answers : List Call → List Answer
-  all_answers calls = answers (watched m) l calls start
+  all_answers calls = answers (performed (watched m) l) calls start
 
   abbrev pub left : List Call → Mem (watched m) l
-  left calls = after (watched m) l calls start
+  left calls = after (performed (watched m) l) calls start
 
   -- all that was done to the store, from the making to the end of these calls
   abbrev pub history : List Call → List Event

@@ -2,6 +2,7 @@
 use Rattle.std.specs.Prelude.{ℕ, List, [], ◌∷◌, Some, None, Ok, Err, Option, Result}
 use Rattle.parts.specs.declared.fault.Fault.{Fault}
 use Rattle.parts.specs.Outcomes.{Outcome}
+use Rattle.parts.specs.Runs.{Machine}
 use Rattle.parts.specs.Meaning.{reading, writing, written}
 use Rattle.parts.specs.Tallying.{Tallying}
 use Rattle.memory_laws.specs.declared.call.Call.{Call}
@@ -32,15 +33,8 @@ module _ (b : Base) {T V : Type 0} (l : T → Tallying V) where
   performed (Read a) s = told Value (reads b l a s)
   performed Sweep s = told (λ _. Passed) (sweeps b l s)
 
-  -- what a list of calls is answered
-  unfoldable pub answers : List Call → Mem b l → List Answer
-  answers [] s = []
-  answers (c ∷ cs) s = (performed c s).0 ∷ answers cs (performed c s).1
-
-  -- the memory that they leave
-  unfoldable pub after : List Call → Mem b l → Mem b l
-  after [] s = s
-  after (c ∷ cs) s = after cs (performed c s).1
+  abbrev pub answering : Machine Call Answer
+  answering = record { State = Mem b l; step = performed }
 
 -- The ideal memory is fed the calls alone: n cells of w bits. Its words after some calls:
 abbrev pub ideal_words : ℕ → ℕ → List ℕ → List Call → List ℕ

@@ -1,14 +1,14 @@
 // The calls of a list that is performed on a checked memory, and their answers.
 use parts::fault::Fault;
 
-#[derive(Clone, Copy)]
+#[derive(Clone, Copy, Debug, PartialEq, Eq)]
 pub enum Call {
     Write { cell: u64, value: u64 },
     Read { cell: u64 },
     Sweep,
 }
 
-#[derive(Clone, Copy)]
+#[derive(Clone, Copy, Debug, PartialEq, Eq)]
 pub enum Answer {
     Written,
     Value(u64),

@@ -1,61 +1,48 @@
 // A list of calls performed on a checked memory just made, over any store.
 #![tactic(auto)]
 
-ghost use Rattle.std.specs.Prelude.{◌≡◌, ◌≤◌, [], length, vec_len, vec_capacity, MatchResult};
+ghost use Rattle.std.specs.Prelude.{◌≡◌, MatchResult};
 ghost use Rattle.memory_laws.specs.Checked.{plain};
-ghost use Rattle.memory_laws.specs.Runs.{performed, answers, after};
+ghost use Rattle.memory_laws.specs.Runs.{answering};
 ghost use Rattle.memory_laws.specs.Promise.{all_answers, left, Promise};
 ghost use Rattle.memory.specs.View.{view};
 
 use memory::checked::CheckedMemory;
 use memory_laws::call::{Answer, Call};
-use parts::fault::Fault;
 use parts::store::Store;
 use parts::tally::Tally;
+use runs::{Performs, perform_all};
 use std::alloc::{AllocError, Global};
 
-// What a call without a result is answered: it was declined, unless the memory is broken.
-fn refused<S: Store, T: Tally>(memory: &CheckedMemory<S, T>, fault: Fault) -> Answer
-    ensures { result ≡ Rattle.memory_laws.specs.Runs.refused (view S.Store.state memory.now).broken fault }
-{
-    match memory.fault() {
-        None => Answer::Declined(fault),
-        Some(_) => Answer::Failed(fault),
-    }
+// A checked memory that answers calls given as values.
+struct Answering<S, T: Tally> {
+    memory: CheckedMemory<S, T>,
 }
 
-fn answer_to<S: Store, T: Tally>(memory: &mut CheckedMemory<S, T>, call: Call) -> Answer
-    ensures answer { result ≡ (performed (plain S.Store.meaning) T.Tally.tallying call (view S.Store.state memory.old)).0 }
-    ensures leaves { view S.Store.state memory.new ≡ (performed (plain S.Store.meaning) T.Tally.tallying call (view S.Store.state memory.old)).1 }
-{
-    match call {
-        Call::Write { cell, value } => match memory.write(cell, value) {
-            Ok(()) => Answer::Written,
-            Err(f) => refused(memory, f),
-        },
-        Call::Read { cell } => match memory.read(cell) {
-            Ok(v) => Answer::Value(v),
-            Err(f) => refused(memory, f),
-        },
-        Call::Sweep => match memory.sweep() {
-            Ok(()) => Answer::Passed,
-            Err(f) => refused(memory, f),
-        },
-    }
-}
+impl<S: Store, T: Tally> Performs for Answering<S, T> {
+    type Call = Call;
 
-// Performs the calls in turn.
-fn perform_all<S: Store, T: Tally>(
-    memory: &mut CheckedMemory<S, T>,
-    calls: &[Call],
-    all: &mut Vec<Answer>,
-)
-    requires { (all.old.items ≡ []) × ((vec_len all.old ≡ 0) × (length calls.now ≤ vec_capacity all.old)) }
-    ensures answer { all.new.items ≡ answers (plain S.Store.meaning) T.Tally.tallying calls.now (view S.Store.state memory.old) }
-    ensures leaves { view S.Store.state memory.new ≡ after (plain S.Store.meaning) T.Tally.tallying calls.now (view S.Store.state memory.old) }
-{
-    for i in 0..calls.len() {
-        all.push_reserved(answer_to(memory, calls[i]));
+    type Answer = Answer;
+
+    ghost machine = { answering (plain S.Store.meaning) T.Tally.tallying };
+
+    ghost state = { λ s. view S.Store.state s.memory };
+
+    fn perform(&mut self, call: Call) -> Answer {
+        let memory = &mut self.memory;
+        let outcome = match call {
+            Call::Write { cell, value } => memory.write(cell, value).map(|()| Answer::Written),
+            Call::Read { cell } => memory.read(cell).map(Answer::Value),
+            Call::Sweep => memory.sweep().map(|()| Answer::Passed),
+        };
+        match outcome {
+            Ok(answer) => answer,
+            // A call without a result was declined, unless the memory is broken.
+            Err(fault) => match memory.fault() {
+                None => Answer::Declined(fault),
+                Some(_) => Answer::Failed(fault),
+            },
+        }
     }
 }
 
@@ -73,11 +60,15 @@ pub fn perform<S: Store, T: Tally + Drop>(
         (λ _. result.0 ≡ store) }
     ensures keeps { Promise S.Store.meaning T.Tally.tallying (S.Store.state store) tally calls.now }
 {
-    let mut all = match Vec::with_capacity(heap, calls.len()) {
-        Ok(all) => all,
-        Err(e) => return (store, Err(e)),
+    // queue_run takes these steps too: a function for both would ask for a trait with a method and a ghost member for the making and
+    // for the taking apart, which is more than the steps.
+    let Ok(mut all) = Vec::with_capacity(heap, calls.len()) else {
+        return (store, Err(AllocError));
     };
-    let mut memory = CheckedMemory::new(store, tally);
-    perform_all(&mut memory, calls, &mut all);
+    let mut answering = Answering {
+        memory: CheckedMemory::new(store, tally),
+    };
+    perform_all(&mut answering, calls, &mut all);
+    let Answering { memory } = answering;
     (memory.into_store(), Ok(all))
 }

@@ -1,13 +1,11 @@
-use Rattle.std.proofs.Common.{◌≡◌, ℕ, ◌+◌, ◌-◌, ◌≤◌, min, Bool, List, replicate, ap, ◌∙◌, subst, arith}
-use Rattle.std.proofs.lemmas.List.{length-replicate}
+use Rattle.std.proofs.Common.{◌≡◌, ℕ, ◌+◌, ◌-◌, ◌≤◌, min, Bool, List, ap, ◌∙◌, subst, arith}
 use Rattle.parts.specs.Meaning.{Meaning, Keeps}
 use Rattle.parts.specs.Orders.{OrderLaws}
 use Rattle.parts.specs.Queues.{QueueMeaning, most_tickets, nothing_waits}
 use Rattle.parts.specs.Tallying.{Tallying, Laws}
 use Rattle.std.proofs.lemmas.Bool.Decides.{nat_tests}
-use Rattle.parts.proofs.Clauses.{size_is}
 use Rattle.memory_laws.specs.Checked.{Mem, plain, checked, StartsLoyal}
-use Rattle.memory_laws.proofs.CheckedKeeps.{checked_keeps}
+use Rattle.memory_laws.proofs.CheckedKeeps.{checked_keeps, starts_as_large}
 use Rattle.heap_laws.specs.Cells.{room}
 use Rattle.heap_laws.specs.HeapMachine as heaps
 use Rattle.heap_laws.proofs.HeapKeeps.{heap_keeps}
@@ -37,7 +35,7 @@ module _ (m : Meaning) (keeps : Keeps m) {T V : Type 0} (l : T → Tallying V) (
       CanGive before (min 255 (min 255 (min 255 (min 255 (m.height s + 1) + 1) + 1) + 1)) tickets nothing_waits cs (promises.all_answers lower before tickets z cs)
   ideal_on_queues s x y z tickets cs memory tall is check promise h wide low high =
       let d = memory h (omega arith) in
-      let size : x.size ≡ m.size s = size_is cells (checked_keeps m keeps l laws) _ _ (replicate (m.size s) 0) x d ∙ length-replicate {A = ℕ} (m.size s) 0 in
+      let size : x.size ≡ m.size s = starts_as_large m keeps l laws s x memory h (omega arith) in
       let width : x.width ≡ 28 = d.width_is ∙ ap (λ (w : ℕ). w - 20) wide in
       let same : room x.size x.width ≡ room (m.size s) 28 = rw (size, width) in
       let e = tall d.loyal (omega arith) in

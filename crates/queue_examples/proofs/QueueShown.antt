@@ -1,4 +1,4 @@
-use Rattle.std.proofs.Common.{◌≡◌, ℕ, zero, suc, ◌+◌, ◌*◌, ◌^◌, ◌<◌, false, [], ◌∷◌, get_or, Some, refl, mod-eq_of_lt, arith}
+use Rattle.std.proofs.Common.{◌≡◌, ℕ, zero, suc, ◌+◌, ◌*◌, ◌^◌, ◌<◌, false, [], ◌∷◌, slice_index_or, Some, refl, mod-eq_of_lt, arith}
 use Rattle.std.proofs.lemmas.Bool.Decides.{nat_tests}
 use Rattle.std.proofs.lemmas.Nat.{div-mul-add, mod-mul-add}
 use Rattle.parts.specs.Queues.{found, nothing_waits, with_entry, Named}
@@ -14,13 +14,13 @@ use Rattle.queue_examples.specs.Stubborn.{stubborn}
 use Rattle.queue_examples.specs.QueueTable.{QueueTable}
 
 -- the ranks of two classes at one minute
-rank_at : (c minute : ℕ) → minute < 2 ^ 24 → c < 16 → rank_of (c * 2 ^ 24 + minute) ≡ get_or ranks c 0
+rank_at : (c minute : ℕ) → minute < 2 ^ 24 → c < 16 → rank_of (c * 2 ^ 24 + minute) ≡ slice_index_or ranks c 0
 rank_at c minute h lt = rw (div-mul-add c (2 ^ 24) minute h, mod-eq_of_lt lt) refl
 
 minute_at : (c minute : ℕ) → minute < 2 ^ 24 → minute_of (c * 2 ^ 24 + minute) ≡ minute
 minute_at c minute h = mod-mul-add c (2 ^ 24) minute h
 
-level : (c d minute : ℕ) → minute < 2 ^ 24 → c < 16 → d < 16 → get_or ranks c 0 ≡ get_or ranks d 0 → by_fault (c * 2 ^ 24 + minute) (d * 2 ^ 24 + minute) ≡ false
+level : (c d minute : ℕ) → minute < 2 ^ 24 → c < 16 → d < 16 → slice_index_or ranks c 0 ≡ slice_index_or ranks d 0 → by_fault (c * 2 ^ 24 + minute) (d * 2 ^ 24 + minute) ≡ false
 level c d minute h lc ld e = rw (rank_at c minute h lc, rank_at d minute h ld, minute_at c minute h, minute_at d minute h, e) (grind (arith, nat_tests))
 
 either : (t : ℕ) → t < 2 → Named earlier (with_entry (with_entry nothing_waits 0 (Some 5)) 1 (Some 5)) (Some t)

@@ -7,6 +7,7 @@ use parts::order::Order;
 use parts::queue::Queue;
 use queue::checked::CheckedQueue;
 use queue_laws::call::{Answer, Call};
+use queue_run::perform;
 use std::test::Fail;
 use store::array::Array;
 
@@ -41,11 +42,11 @@ fn removal_after(first: u64, second: u64) -> Result<(), QueueFault> {
 
 #[test]
 fn catches(rt: HostRuntime) {
-    assert!(rt; removal_after(5, 8) == Err(passed_over()));
-    assert!(rt; audit_after(5, 8) == Err(passed_over()));
-    assert!(rt; removal_after(8, 8) == Ok(()));
-    assert!(rt; audit_after(8, 8) == Ok(()));
-    assert!(rt; audit_after(9, 8) == Ok(()));
+    assert_eq!(rt; removal_after(5, 8), Err(passed_over()));
+    assert_eq!(rt; audit_after(5, 8), Err(passed_over()));
+    assert_eq!(rt; removal_after(8, 8), Ok(()));
+    assert_eq!(rt; audit_after(8, 8), Ok(()));
+    assert_eq!(rt; audit_after(9, 8), Ok(()));
 }
 
 #[test]
@@ -57,18 +58,24 @@ fn faults_by_rank(rt: HostRuntime) {
     assert!(rt; !ByFault.is_before(7 * class + 9, 4 * class + 9));
 }
 
-fn is_named(answers: &Vec<Answer>, at: usize, ticket: u64) -> bool {
-    match answers.get(at) {
-        Some(Answer::Named(t)) => *t == ticket,
-        _ => false,
-    }
-}
-
-fn is_passed(answers: &Vec<Answer>, at: usize) -> bool {
-    match answers.get(at) {
-        Some(Answer::Passed) => true,
-        _ => false,
-    }
+// The queue that names one ticket for ever, under a list of calls.
+#[test]
+fn performed(rt: HostRuntime) -> Result<(), Fail> {
+    let stubborn = Stubborn {
+        order: Earliest,
+        ticket: 1,
+    };
+    let calls = [
+        Call::Put { ticket: 0, key: 5 },
+        Call::Put { ticket: 1, key: 8 },
+        Call::Least,
+        Call::Remove { ticket: 0 },
+    ];
+    let (_, answers) = perform(rt.alloc(), stubborn, 2, &calls);
+    let answers = answers?;
+    assert_eq!(rt; answers.get(2), Some(&Answer::Named(1)));
+    assert_eq!(rt; answers.get(3), Some(&Answer::Failed(passed_over())));
+    Ok(())
 }
 
 // Four tickets on a pile over 12 cells of 48 bits.
@@ -89,9 +96,9 @@ fn piles(rt: HostRuntime) -> Result<(), Fail> {
         Call::Audit,
     ];
     let answers = on_queue_pile(rt.alloc(), Array::new(&mut words, 48), Earliest, 4, &calls)?;
-    assert!(rt; is_named(&answers, 4, 2));
-    assert!(rt; is_named(&answers, 6, 3));
-    assert!(rt; is_named(&answers, 9, 1));
-    assert!(rt; is_passed(&answers, 10));
+    assert_eq!(rt; answers.get(4), Some(&Answer::Named(2)));
+    assert_eq!(rt; answers.get(6), Some(&Answer::Named(3)));
+    assert_eq!(rt; answers.get(9), Some(&Answer::Named(1)));
+    assert_eq!(rt; answers.get(10), Some(&Answer::Passed));
     Ok(())
 }

@@ -1,7 +1,7 @@
 // The calls of a checked queue, and what they are answered.
 use parts::fault::QueueFault;
 
-#[derive(Clone, Copy)]
+#[derive(Clone, Copy, Debug, PartialEq, Eq)]
 pub enum Call {
     Put { ticket: u64, key: u64 },
     Remove { ticket: u64 },
@@ -11,7 +11,7 @@ pub enum Call {
 }
 
 // A call without a result was declined, and the queue goes on, or failed, and the queue is broken.
-#[derive(Clone, Copy)]
+#[derive(Clone, Copy, Debug, PartialEq, Eq)]
 pub enum Answer {
     Entered,
     Removed,

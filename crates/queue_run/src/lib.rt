@@ -6,22 +6,11 @@ ghost use Rattle.queue_laws.specs.QueueRuns.{answering};
 ghost use Rattle.queue_laws.specs.QueuePromise.{all_answers, left, Promise};
 ghost use Rattle.queue.specs.View.{view};
 
-use parts::fault::QueueFault;
 use parts::queue::Queue;
 use queue::checked::CheckedQueue;
 use queue_laws::call::{Answer, Call};
 use runs::{Performs, perform_all};
 use std::alloc::{AllocError, Global};
-
-// What a call without a result is answered: it was declined, unless the queue is broken.
-fn refused<Q: Queue>(queue: &CheckedQueue<Q>, fault: QueueFault) -> Answer
-    ensures { result ≡ Rattle.queue_laws.specs.QueueRuns.refused (view Q.Queue.state queue.now).broken fault }
-{
-    match queue.fault() {
-        None => Answer::Declined(fault),
-        Some(_) => Answer::Failed(fault),
-    }
-}
 
 // A checked queue that answers calls given as values.
 struct Answering<Q> {
@@ -38,27 +27,22 @@ impl<Q: Queue> Performs for Answering<Q> {
     ghost state = { λ s. view Q.Queue.state s.queue };
 
     fn perform(&mut self, call: Call) -> Answer {
-        match call {
-            Call::Put { ticket, key } => match self.queue.put(ticket, key) {
-                Ok(()) => Answer::Entered,
-                Err(f) => refused(&self.queue, f),
-            },
-            Call::Remove { ticket } => match self.queue.remove(ticket) {
-                Ok(()) => Answer::Removed,
-                Err(f) => refused(&self.queue, f),
-            },
-            Call::Least => match self.queue.least() {
-                Ok(Some(ticket)) => Answer::Named(ticket),
-                Ok(None) => Answer::Nothing,
-                Err(f) => refused(&self.queue, f),
-            },
-            Call::Audit => match self.queue.audit() {
-                Ok(()) => Answer::Passed,
-                Err(f) => refused(&self.queue, f),
-            },
-            Call::Clear => match self.queue.clear() {
-                Ok(()) => Answer::Cleared,
-                Err(f) => refused(&self.queue, f),
+        let queue = &mut self.queue;
+        let outcome = match call {
+            Call::Put { ticket, key } => queue.put(ticket, key).map(|()| Answer::Entered),
+            Call::Remove { ticket } => queue.remove(ticket).map(|()| Answer::Removed),
+            Call::Least => queue
+                .least()
+                .map(|named| named.map_or(Answer::Nothing, Answer::Named)),
+            Call::Audit => queue.audit().map(|()| Answer::Passed),
+            Call::Clear => queue.clear().map(|()| Answer::Cleared),
+        };
+        match outcome {
+            Ok(answer) => answer,
+            // A call without a result was declined, unless the queue is broken.
+            Err(fault) => match queue.fault() {
+                None => Answer::Declined(fault),
+                Some(_) => Answer::Failed(fault),
             },
         }
     }
@@ -78,9 +62,10 @@ pub fn perform<Q: Queue>(
         (λ _. result.0 ≡ queue) }
     ensures keeps { Promise Q.Queue.meaning Q.Order.before capacity (Q.Queue.state queue) calls.now }
 {
-    let mut all = match Vec::with_capacity(heap, calls.len()) {
-        Ok(all) => all,
-        Err(e) => return (queue, Err(e)),
+    // memory_run takes these steps too: a function for both would ask for a trait with a method and a ghost member for the making and
+    // for the taking apart, which is more than the steps.
+    let Ok(mut all) = Vec::with_capacity(heap, calls.len()) else {
+        return (queue, Err(AllocError));
     };
     let mut answering = Answering {
         queue: CheckedQueue::new(queue, capacity),

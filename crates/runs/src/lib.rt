@@ -27,8 +27,7 @@ pub fn perform_all<P: Performs>(part: &mut P, calls: &[P::Call], all: &mut Vec<P
     ensures leaves { P.Performs.state part.new ≡ after P.Performs.machine.step (take (vec_capacity all.old - vec_len all.old) calls.now) (P.Performs.state part.old) }
 {
     let room = all.capacity().saturating_sub(all.len());
-    for i in 0..calls.len().min(room) {
-        let call = calls[i];
-        all.push_reserved(part.perform(call));
+    for call in calls.iter().take(room) {
+        all.push_reserved(part.perform(*call));
     }
 }

@@ -1,4 +1,4 @@
-use Rattle.std.proofs.Common.{refl, ap, ◌∙◌}
+use Rattle.std.proofs.Common.{ap, ◌∙◌}
 use Rattle.parts.specs.Runs.{answers, after}
 use Rattle.parts.proofs.Runs.{all_answered, all_left}
 use Rattle.queue_laws.specs.CheckedQueue.{Chk}
@@ -20,9 +20,5 @@ returns g c =
       );
     }
 
-pub returns-in-Err : goal.returns-in-Err
-returns-in-Err g c =
-    record {
-      gives = refl;
-      keeps = promised g.Q.Queue.meaning g.Q.Order.Order.before g.met.Q.Queue.keeps g.met.Q.Order.Order.laws c.args.capacity (g.Q.Queue.state c.args.queue) c.args.calls.now;
-    }
+pub returns-in_default-clause-keeps : goal.returns-in_default-clause-keeps
+returns-in_default-clause-keeps g c = promised g.Q.Queue.meaning g.Q.Order.Order.before g.met.Q.Queue.keeps g.met.Q.Order.Order.laws c.args.capacity _ c.args.calls.now
