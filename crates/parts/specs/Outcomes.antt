@@ -22,3 +22,13 @@ settled break o = elim o.0 [ Ok a ↦ (Ok a, o.1) | Err f ↦ (Err f, break f o.
 abbrev pub unless_broken : {F A S : Type 0} → Option F → S → Outcome F A S → Outcome F A S
 unless_broken (Some f) s o = (Err f, s)
 unless_broken None s o = o
+
+-- the first fault, if there is any, as what a call is answered
+abbrev pub unless_any : {F : Type 0} → Option F → Result (Unit {0}) F
+unless_any (Some f) = Err f
+unless_any None = Ok tt
+
+-- the fault of a part after a call that settled so: that of the call, or else the one it had
+abbrev pub first_kept : {F A : Type 0} → Option F → Result A F → Option F
+first_kept first (Ok a) = first
+first_kept first (Err f) = Some f

@@ -1,11 +1,13 @@
 // Faults: what a call ends in where it has no result.
-ghost use Rattle.std.specs.Prelude.{◌≡◌};
+ghost use Rattle.std.specs.Prelude.{◌≡◌, Some};
 ghost use Rattle.parts.specs.Causes.{number_of, words_of};
 ghost use Rattle.parts.specs.Queues.{carried};
 ghost use Rattle.parts.specs.declared.fault.QueueFault.TheVariants.{Store};
 
+use std::fmt;
+
 // Why a call has no result. The numbers 1 to 9 decline a call; those from 21 up report what a part found.
-#[derive(Clone, Copy, PartialEq, Eq)]
+#[derive(Clone, Copy, Debug, PartialEq, Eq)]
 pub enum Cause {
     NoSuchCell = 1,
     WordTooWide = 2,
@@ -26,13 +28,15 @@ pub enum Cause {
     ReplayEnded = 28,
 }
 
-impl Cause {
-    pub fn number(self) -> u8
-        ensures { result ≡ number_of self }
-    {
-        self as u8
-    }
+impl From<Cause> for u8 {
+    ghost from_gives = { λ cause n. n ≡ number_of cause };
 
+    fn from(cause: Cause) -> u8 {
+        cause as u8
+    }
+}
+
+impl Cause {
     // The cause in words.
     pub fn name(self) -> &'static str
         ensures { result.now ≡ words_of self }
@@ -59,9 +63,17 @@ impl Cause {
     }
 }
 
+impl fmt::Display for Cause {
+    ghost output = { λ cause. Some (words_of cause) };
+
+    fn fmt<W: fmt::Write>(&self, f: &mut fmt::Formatter<W>) -> fmt::Result {
+        f.write_str(self.name())
+    }
+}
+
 // A cause, the height of the part that found it, and the place: a cell for a store, a ticket for a queue, or 0.
 // A part at the bottom has height 0, any other the height below it plus one, at most 255.
-#[derive(Clone, Copy, PartialEq, Eq)]
+#[derive(Clone, Copy, Debug, PartialEq, Eq)]
 pub struct Fault {
     pub cause: Cause,
     pub height: u8,
@@ -70,7 +82,7 @@ pub struct Fault {
 
 // A fault that a call of a queue ends in: one that a queue found, whose place is a ticket, or one that a store below found, whose
 // place is a cell. A store's fault is carried whole.
-#[derive(Clone, Copy, PartialEq, Eq)]
+#[derive(Clone, Copy, Debug, PartialEq, Eq)]
 pub enum QueueFault {
     Found(Fault),
     Store(Fault),

@@ -4,6 +4,7 @@
 #![tactic(auto)]
 
 pub mod fault;
+pub mod latch;
 pub mod order;
 pub mod queue;
 pub mod store;
