@@ -1,5 +1,5 @@
 -- The rows of a table's arrays, and the table on the way of a loop that raises its bounds.
-use Rattle.std.proofs.Common.{◌≡◌, ℕ, ◌+◌, ◌<◌, ◌≤◌, Bool, true, false, cond, ltb, ◌≢◌, List, get_or, replicate, is_some, Some, None, Option, sym, refl, ap, ◌∙◌, ⊎_elim, arith}
+use Rattle.std.proofs.Common.{◌≡◌, ℕ, ◌+◌, ◌<◌, ◌≤◌, Bool, true, false, cond, ltb, List, get_or, replicate, is_some, Some, None, Option, sym, ◌∙◌, arith}
 use denote.Ref.{Bor}
 use denote.Param.Members.{Mut}
 use Rattle.std.proofs.iter.Yields.{nat_range_steps}
@@ -11,19 +11,19 @@ use Rattle.std.proofs.lemmas.Iterator.{first_from_Range}
 use mathlib.Core.Path.{fun_ext}
 use Rattle.std.proofs.lemmas.List.{get_or_past, get_or-replicate, length-replicate}
 use Rattle.std.proofs.lemmas.Bool.Decides.{nat_tests}
-use Rattle.std.proofs.lemmas.Bool.{cases_eq, cases_lt, lt-ltb, le-ltb, eq-eqb}
+use Rattle.std.proofs.lemmas.Bool.{cases_lt}
 use Rattle.parts.specs.Queues.{most_tickets}
 use Rattle.queue_laws.specs.Tables.{Row, empty_table, with_row, first_below, raised_row, raised}
 use Rattle.queue_laws.proofs.Firsts.{first_here, first_absent}
-use Rattle.queue_laws.proofs.Rows.{row_other}
 use Rattle.table.specs.declared.table.Table.{Table}
 use Rattle.table.specs.Rows.{row, rows}
 
 none_waits : (n t : ℕ) → get_or (replicate n false) t false ≡ false
 none_waits n t = grind (arith, cases_lt t n, get_or-replicate n t false false, get_or_past (replicate n false) t false, length-replicate {A = Bool})
 
-pub rows_empty : (T : Table) → T.waits ≡ replicate most_tickets false → rows T ≡ empty_table
-rows_empty T e = fun_ext (λ t. rw (e, none_waits most_tickets t) (grind (arith, nat_tests)))
+pub rows_empty : (n : ℕ) (keys : List ℕ) (bounded : List Bool) (bounds : List ℕ) →
+    (λ t. cond (ltb t n) (row (get_or (replicate most_tickets false) t false) (get_or keys t 0) (get_or bounded t false) (get_or bounds t 0)) None) ≡ empty_table
+rows_empty n keys bounded bounds = fun_ext (λ t. rw (none_waits most_tickets t) (grind (arith, nat_tests)))
 
 -- a ticket of the table has a row where its flag says that it waits
 pub has_row : (T : Table) (t : ℕ) → t < T.tickets → is_some (rows T t) ≡ get_or T.waits t false

@@ -1,4 +1,4 @@
-use Rattle.std.proofs.Common.{ℕ, Bool, refl, rules}
+use Rattle.std.proofs.Common.{ℕ, refl, rules}
 use Rattle.queue_laws.specs.Tables.{offends}
 use Rattle.table.specs.Rows.{rows}
 use Rattle.table.proofs.Tabled.{first_found}

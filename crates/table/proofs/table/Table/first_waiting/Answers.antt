@@ -1,4 +1,4 @@
-use Rattle.std.proofs.Common.{Bool, false, ℕ, is_some, get_or, rules}
+use Rattle.std.proofs.Common.{false, is_some, get_or, rules}
 use Rattle.table.specs.Rows.{rows}
 use Rattle.table.proofs.Tabled.{has_row, first_found}
 use Rattle.table.proofs.table.Table.first_waiting.Goals as goal
