@@ -1,14 +1,15 @@
 // The checked queue: a layer over any queue, which finds out whether the queue named a ticket that none was before.
 ghost use Rattle.std.specs.Prelude.{◌≡◌, ◌≤◌, None, Ok};
-ghost use Rattle.parts.specs.Outcomes.{settled};
+ghost use Rattle.parts.specs.Outcomes.{unless_any};
 ghost use Rattle.parts.specs.Queues.{most_tickets, found, put_declined, remove_declined};
-ghost use Rattle.queue_laws.specs.CheckedQueue.{fitting, at_broken, height, entering, taking, naming, leasts, auditing, audits, clearing, made, Loyal, checked, StartsLoyal};
+ghost use Rattle.queue_laws.specs.CheckedQueue.{fitting, height, entering, taking, naming, auditing, audits, clearing, made, Loyal, checked, StartsLoyal};
 ghost use Rattle.table.specs.Rows.{rows};
-ghost use Rattle.queue.specs.View.{view, Does, unless_any};
+ghost use Rattle.queue.specs.View.{view, Does};
 ghost use Rattle.queue_laws.specs.Tables.{waiting, first_offender};
 ghost use Rattle.queue_laws.proofs.QueueKeeps.{checked_keeps};
 
 use parts::fault::{Cause, Fault, QueueFault};
+use parts::latch::Latch;
 use parts::queue::{KEY_LIMIT, MOST_TICKETS, Queue};
 use table::table::Table;
 
@@ -16,7 +17,7 @@ use table::table::Table;
 pub struct CheckedQueue<Q> {
     below: Q,
     table: Table,
-    broken: Option<QueueFault>,
+    latch: Latch<QueueFault>,
 }
 
 // The capacity of a check over a queue of this capacity, or 0 where it is unfit.
@@ -24,7 +25,7 @@ fn fit_capacity(capacity: u64, below: u64) -> u64
     ensures value { result ≡ fitting capacity below }
     ensures few { result ≤ most_tickets }
 {
-    if 1 <= capacity && capacity <= MOST_TICKETS as u64 && capacity <= below {
+    if (1..=MOST_TICKETS as u64).contains(&capacity) && capacity <= below {
         capacity
     } else {
         0
@@ -41,7 +42,7 @@ impl<Q: Queue> CheckedQueue<Q> {
         CheckedQueue {
             below,
             table: Table::new(tickets),
-            broken: None,
+            latch: Latch::new(),
         }
     }
 
@@ -51,57 +52,36 @@ impl<Q: Queue> CheckedQueue<Q> {
     {
         QueueFault::Found(Fault {
             cause,
-            height: self.below.height().saturating_add(1),
+            height: self.height(),
             place: ticket,
         })
     }
 
-    // A broken check answers its first fault.
-    fn unbroken(&self) -> Result<(), QueueFault>
-        ensures { result ≡ unless_any self.now.broken }
-    {
-        if let Some(first) = self.broken {
-            return Err(first);
-        }
-        Ok(())
-    }
-
-    // A fault breaks the check.
-    fn settle<A>(&mut self, res: Result<A, QueueFault>) -> Result<A, QueueFault>
-        ensures { Does Q.Queue.state self.old self.new result (λ s. settled at_broken (res, s)) }
-    {
-        match &res {
-            Ok(_) => {}
-            Err(f) => self.broken = Some(*f),
-        }
-        res
-    }
-
-    // Why a put is declined, if it is.
-    fn put_declined(&self, ticket: u64, key: u64) -> Option<Cause>
-        ensures { result ≡ put_declined self.now.table.tickets (waiting (rows self.now.table)) ticket key }
+    // Why a put is declined, or that it is not.
+    fn may_put(&self, ticket: u64, key: u64) -> Result<(), Cause>
+        ensures { result ≡ unless_any (put_declined self.now.table.tickets (waiting (rows self.now.table)) ticket key) }
     {
         if ticket >= self.table.tickets() {
-            Some(Cause::NoSuchTicket)
+            Err(Cause::NoSuchTicket)
         } else if key >= KEY_LIMIT {
-            Some(Cause::KeyTooLarge)
+            Err(Cause::KeyTooLarge)
         } else if self.table.key(ticket).is_some() {
-            Some(Cause::TicketInUse)
+            Err(Cause::TicketInUse)
         } else {
-            None
+            Ok(())
         }
     }
 
-    // Why a remove is declined, if it is.
-    fn remove_declined(&self, ticket: u64) -> Option<Cause>
-        ensures { result ≡ remove_declined self.now.table.tickets (waiting (rows self.now.table)) ticket }
+    // Why a remove is declined, or that it is not.
+    fn may_remove(&self, ticket: u64) -> Result<(), Cause>
+        ensures { result ≡ unless_any (remove_declined self.now.table.tickets (waiting (rows self.now.table)) ticket) }
     {
         if ticket >= self.table.tickets() {
-            Some(Cause::NoSuchTicket)
+            Err(Cause::NoSuchTicket)
         } else if self.table.key(ticket).is_none() {
-            Some(Cause::NotWaiting)
+            Err(Cause::NotWaiting)
         } else {
-            None
+            Ok(())
         }
     }
 
@@ -132,26 +112,14 @@ impl<Q: Queue> CheckedQueue<Q> {
     fn name(&mut self) -> Result<Option<u64>, QueueFault>
         ensures { Does Q.Queue.state self.old self.new result (naming Q.Queue.meaning Q.Order.before) }
     {
-        let Some(ticket) = self.below.least()? else {
-            return Err(self.own(Cause::NothingNamed, 0));
-        };
-        let Some(key) = self.table.key(ticket) else {
-            return Err(self.own(Cause::NamedNotWaiting, ticket));
-        };
+        let named = self.below.least()?;
+        let ticket = named.ok_or_else(|| self.own(Cause::NothingNamed, 0))?;
+        let key = self
+            .table
+            .key(ticket)
+            .ok_or_else(|| self.own(Cause::NamedNotWaiting, ticket))?;
         self.table.raise(self.below.order(), key);
         Ok(Some(ticket))
-    }
-
-    // The ticket that is named, or none where nothing waits.
-    fn first(&mut self) -> Result<Option<u64>, QueueFault>
-        ensures { Does Q.Queue.state self.old self.new result (leasts Q.Queue.meaning Q.Order.before) }
-    {
-        self.unbroken()?;
-        if self.table.first_waiting().is_none() {
-            return Ok(None);
-        }
-        let result = self.name();
-        self.settle(result)
     }
 
     // Clears below and empties the table.
@@ -178,20 +146,16 @@ impl<Q: Queue> CheckedQueue<Q> {
         ensures does { Does Q.Queue.state self.old self.new result (audits Q.Queue.meaning Q.Order.before) }
         ensures passes { Loyal Q.Queue.meaning Q.Order.before (view Q.Queue.state self.old) → result ≡ Ok tt }
     {
-        self.unbroken()?;
-        let result = self.no_offender();
-        self.settle(result)
+        self.latch.unbroken()?;
+        let audited = self.no_offender();
+        self.latch.settle(audited)
     }
 
     // Takes the check apart, and gives the queue back.
     pub fn into_queue(self) -> Q
         ensures { Q.Queue.state result ≡ (view Q.Queue.state self).below }
     {
-        let CheckedQueue {
-            below,
-            table: _,
-            broken: _,
-        } = self;
+        let CheckedQueue { below, .. } = self;
         below
     }
 
@@ -206,7 +170,7 @@ impl<Q: Queue> CheckedQueue<Q> {
     pub fn fault(&self) -> Option<QueueFault>
         ensures { result ≡ (view Q.Queue.state self.now).broken }
     {
-        self.broken
+        self.latch.fault()
     }
 }
 
@@ -232,33 +196,36 @@ impl<Q: Queue> Queue for CheckedQueue<Q> {
     }
 
     fn clear(&mut self) -> Result<(), QueueFault> {
-        self.unbroken()?;
+        self.latch.unbroken()?;
         if self.table.tickets() == 0 {
             return Ok(());
         }
-        let result = self.empty();
-        self.settle(result)
+        let emptied = self.empty();
+        self.latch.settle(emptied)
     }
 
     fn put(&mut self, ticket: u64, key: u64) -> Result<(), QueueFault> {
-        self.unbroken()?;
-        if let Some(cause) = self.put_declined(ticket, key) {
-            return Err(self.own(cause, ticket));
-        }
-        let result = self.enter(ticket, key);
-        self.settle(result)
+        self.latch.unbroken()?;
+        self.may_put(ticket, key)
+            .map_err(|cause| self.own(cause, ticket))?;
+        let entered = self.enter(ticket, key);
+        self.latch.settle(entered)
     }
 
     fn remove(&mut self, ticket: u64) -> Result<(), QueueFault> {
-        self.unbroken()?;
-        if let Some(cause) = self.remove_declined(ticket) {
-            return Err(self.own(cause, ticket));
-        }
-        let result = self.take(ticket);
-        self.settle(result)
+        self.latch.unbroken()?;
+        self.may_remove(ticket)
+            .map_err(|cause| self.own(cause, ticket))?;
+        let taken = self.take(ticket);
+        self.latch.settle(taken)
     }
 
     fn least(&mut self) -> Result<Option<u64>, QueueFault> {
-        self.first()
+        self.latch.unbroken()?;
+        if self.table.first_waiting().is_none() {
+            return Ok(None);
+        }
+        let named = self.name();
+        self.latch.settle(named)
     }
 }

@@ -1,5 +1,5 @@
 // The rows of a table.
-ghost use Rattle.std.specs.Prelude.{◌≡◌, ◌<◌, ◌≤◌, min, Some, None};
+ghost use Rattle.std.specs.Prelude.{◌≡◌, ◌<◌, ◌≤◌, min, cond, Some, None, nat_lt};
 ghost use Rattle.parts.specs.Queues.{most_tickets};
 ghost use Rattle.queue_laws.specs.Tables.{empty_table, with_row, fresh_row, waiting, first_waiting, raised_row, raised, offends, first_offender};
 ghost use Rattle.table.specs.Rows.{rows};
@@ -38,15 +38,19 @@ impl Table {
         self.tickets
     }
 
+    // The index of the ticket's row, if there is such a ticket.
+    fn row(&self, ticket: u64) -> Option<usize>
+        ensures { result ≡ cond (nat_lt ticket self.now.tickets) (Some ticket) None }
+    {
+        (ticket < self.tickets).then_some(ticket as usize)
+    }
+
     // The key of a waiting ticket.
     pub fn key(&self, ticket: u64) -> Option<u64>
         ensures { result ≡ waiting (rows self.now) ticket }
     {
-        if ticket < self.tickets && self.waits[ticket as usize] {
-            Some(self.keys[ticket as usize])
-        } else {
-            None
-        }
+        let t = self.row(ticket)?;
+        self.waits[t].then_some(self.keys[t])
     }
 
     // The ticket waits with the key, without a bound. Where there is no such ticket, nothing happens.
@@ -55,8 +59,7 @@ impl Table {
         ensures enters { ticket < self.old.tickets → rows self.new ≡ with_row (rows self.old) ticket (Some (fresh_row key)) }
         ensures past { self.old.tickets ≤ ticket → rows self.new ≡ rows self.old }
     {
-        if ticket < self.tickets {
-            let t = ticket as usize;
+        if let Some(t) = self.row(ticket) {
             self.waits[t] = true;
             self.keys[t] = key;
             self.bounded[t] = false;
@@ -68,8 +71,8 @@ impl Table {
         ensures tickets { self.new.tickets ≡ self.old.tickets }
         ensures rows { rows self.new ≡ with_row (rows self.old) ticket None }
     {
-        if ticket < self.tickets {
-            self.waits[ticket as usize] = false;
+        if let Some(t) = self.row(ticket) {
+            self.waits[t] = false;
         }
     }
 
@@ -77,22 +80,16 @@ impl Table {
     pub fn first_waiting(&self) -> Option<u64>
         ensures { result ≡ first_waiting (rows self.now) self.now.tickets }
     {
-        for t in 0..self.tickets {
-            if self.waits[t as usize] {
-                return Some(t);
-            }
-        }
-        None
+        (0..self.tickets).find(|&t| self.waits[t as usize])
     }
 
     // Whether the ticket waits with a key before its bound.
     pub fn is_before_bound<O: Order>(&self, order: &O, ticket: u64) -> bool
         ensures { result ≡ offends O.Order.before (rows self.now ticket) }
     {
-        if ticket >= self.tickets {
+        let Some(t) = self.row(ticket) else {
             return false;
-        }
-        let t = ticket as usize;
+        };
         self.waits[t] && self.bounded[t] && order.is_before(self.keys[t], self.bounds[t])
     }
 
@@ -100,12 +97,7 @@ impl Table {
     pub fn first_offender<O: Order>(&self, order: &O) -> Option<u64>
         ensures { result ≡ first_offender O.Order.before (rows self.now) self.now.tickets }
     {
-        for t in 0..self.tickets {
-            if self.is_before_bound(order, t) {
-                return Some(t);
-            }
-        }
-        None
+        (0..self.tickets).find(|&t| self.is_before_bound(order, t))
     }
 
     // Raises the bound of the ticket, if it waits, to the key, where the bound is none or before it.

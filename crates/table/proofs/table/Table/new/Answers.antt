@@ -3,5 +3,5 @@ use Rattle.parts.specs.Queues.{most_tickets}
 use Rattle.table.proofs.Tabled.{rows_empty}
 use Rattle.table.proofs.table.Table.new.Goals as goal
 
-pub returns : goal.returns
-returns c = record { tickets = c.min.ensures; rows = rows_empty c.min.result (replicate most_tickets 0) (replicate most_tickets false) (replicate most_tickets 0) }
+pub returns-clause-rows : goal.returns-clause-rows
+returns-clause-rows c = rows_empty _ (replicate most_tickets 0) (replicate most_tickets false) (replicate most_tickets 0)
