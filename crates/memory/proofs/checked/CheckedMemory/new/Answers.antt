@@ -14,8 +14,5 @@ starts m k l laws s t e =
 pub returns-then-not-is_checkable : goal.returns-then-not-is_checkable
 returns-then-not-is_checkable g c = starts g.S.Store.meaning g.S.Store.keeps g.T.Tally.tallying g.T.Tally.laws _ c.args.tally (search rules)
 
-pub returns-in-Err : goal.returns-in-Err
-returns-in-Err g c = starts g.S.Store.meaning g.S.Store.keeps g.T.Tally.tallying g.T.Tally.laws _ c.args.tally (search rules)
-
-pub returns-in_default : goal.returns-in_default
-returns-in_default g c = starts g.S.Store.meaning g.S.Store.keeps g.T.Tally.tallying g.T.Tally.laws _ c.args.tally (search rules)
+pub returns : goal.returns
+returns g c = starts g.S.Store.meaning g.S.Store.keeps g.T.Tally.tallying g.T.Tally.laws _ c.args.tally (search rules)
