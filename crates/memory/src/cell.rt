@@ -6,7 +6,7 @@ use std::marker::Model;
 
 const RECORD_BASE: u64 = 281_474_976_710_656;
 
-// The number of a cell. No store has 4,096 cells or more, so that the record of a word in it is a number below 2^60.
+// The number of a cell. A store has at most 4,096 cells, so that the record of a word in one is a number below 2^60.
 #[derive(Clone, Copy)]
 pub struct Cell {
     number: u64,

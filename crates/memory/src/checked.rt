@@ -1,8 +1,8 @@
 // The checked memory: a layer over any store, which finds out whether the store answered what was last written.
-ghost use Rattle.std.specs.Prelude.{◌≡◌, ◌^◌, ◌<◌, ◌≤◌, IfSome, IfOk, Ok};
-ghost use Rattle.parts.specs.Outcomes.{settled};
+ghost use Rattle.std.specs.Prelude.{◌≡◌, ◌^◌, ◌<◌, ◌≤◌, cond, nat_lt, IfSome, IfOk, Ok, Err};
 ghost use Rattle.parts.specs.Meaning.{fault};
-ghost use Rattle.memory_laws.specs.Checked.{plain, at_broken, blank, checkable, height, fetch, put, renewed, cleared, sweep_all, ready, turn, visit, replaced, sweeps, checked, StartsLoyal};
+ghost use Rattle.parts.specs.declared.fault.Cause.TheVariants.{NoSuchCell};
+ghost use Rattle.memory_laws.specs.Checked.{plain, blank, checkable, height, fetch, put, renewed, cleared, sweep_all, ready, turn, visit, replaced, sweeps, checked, StartsLoyal};
 ghost use Rattle.memory_laws.specs.Checked.{made as made_over};
 ghost use Rattle.memory_laws.proofs.CheckedKeeps.{checked_keeps};
 ghost use Rattle.memory.specs.View.{view, Does};
@@ -47,11 +47,13 @@ impl<S: Store, T: Tally> CheckedMemory<S, T> {
         }
     }
 
-    // A fault breaks the memory.
-    fn settle<A>(&mut self, res: Result<A, Fault>) -> Result<A, Fault>
-        ensures { Does S.Store.state self.old self.new result (λ s. settled at_broken (res, s)) }
+    // The cell of that number, if there is one.
+    fn cell_at(&self, number: u64) -> Result<Cell, Fault>
+        ensures { let s = view S.Store.state self.now in result ≡ cond (nat_lt number s.size) (Ok number) (Err (fault NoSuchCell (height (plain S.Store.meaning) T.Tally.tallying s) number)) }
     {
-        self.latch.settle(res)
+        self.clock
+            .cell(number)
+            .ok_or_else(|| self.own(Cause::NoSuchCell, number))
     }
 
     // Reads a cell below, tests its word and adds its record to those read; answers the value.
@@ -92,7 +94,7 @@ impl<S: Store, T: Tally> CheckedMemory<S, T> {
         Ok(())
     }
 
-    // A memory of that size and width of the values, with the clock at 0, whose cells no word was read from or written to.
+    // A memory of that size and width of the values, with the clock at 0, nothing read and nothing written.
     fn blank(store: S, tally: T, size: u64, width: u32) -> Self
         requires { (size ≤ 4096) × (width ≤ 28) }
         ensures { view S.Store.state result ≡ blank (plain S.Store.meaning) T.Tally.tallying tally size width (S.Store.state store) }
@@ -124,7 +126,7 @@ impl<S: Store, T: Tally> CheckedMemory<S, T> {
         }
         let mut memory = CheckedMemory::blank(store, tally, size, width - STAMP_BITS);
         let result = memory.clear();
-        let _ = memory.settle(result);
+        let _ = memory.latch.settle(result);
         memory
     }
 
@@ -168,8 +170,9 @@ impl<S: Store, T: Tally> CheckedMemory<S, T> {
         Ok(())
     }
 
-    // Reads the cell, raises the clock, and writes the new value, or else the one read, with that stamp.
-    #[tactic(auto, using(crate::proofs::Chosen::chosen_below))]
+    // Reads the cell, raises the clock, and writes the new value, or else the one read, with that stamp. That a value is below the
+    // limit is asked of these three and is in no type: the limit is the width of this memory, and a value does not know its memory.
+    #[tactic(auto, using(crate::proofs::Values::chosen_below))]
     fn turn(&mut self, cell: Cell, new: Option<u64>) -> Result<u64, Fault>
         requires time_bound { self.old.clock.time < 1048575 }
         requires some { IfSome new (λ v. v < 2 ^ self.old.clock.width) }
@@ -204,7 +207,7 @@ impl<S: Store, T: Tally> CheckedMemory<S, T> {
     {
         self.latch.unbroken()?;
         let result = self.sweep_all();
-        self.settle(result)
+        self.latch.settle(result)
     }
 
     // Takes the memory apart, and gives the store back.
@@ -253,22 +256,18 @@ impl<S: Store, T: Tally> Store for CheckedMemory<S, T> {
 
     fn read(&mut self, cell: u64) -> Result<u64, Fault> {
         self.latch.unbroken()?;
-        let Some(place) = self.clock.cell(cell) else {
-            return Err(self.own(Cause::NoSuchCell, cell));
-        };
-        let result = self.visit(place, None);
-        self.settle(result)
+        let cell = self.cell_at(cell)?;
+        let result = self.visit(cell, None);
+        self.latch.settle(result)
     }
 
     fn write(&mut self, cell: u64, word: u64) -> Result<(), Fault> {
         self.latch.unbroken()?;
-        let Some(place) = self.clock.cell(cell) else {
-            return Err(self.own(Cause::NoSuchCell, cell));
-        };
+        let cell = self.cell_at(cell)?;
         if word >= power(self.clock.width) {
-            return Err(self.own(Cause::WordTooWide, cell));
+            return Err(self.own(Cause::WordTooWide, cell.number()));
         }
-        let result = self.replace(place, word);
-        self.settle(result)
+        let result = self.replace(cell, word);
+        self.latch.settle(result)
     }
 }

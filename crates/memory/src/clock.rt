@@ -10,7 +10,9 @@ pub struct Clock {
     pub size: u64,
     pub width: u32,
     pub time: u64,
-    ghost ok: { (time ≤ 1048575) × (size ≤ 4096) × (width ≤ 28) },
+    ghost in_range: { time ≤ 1048575 },
+    ghost few: { size ≤ 4096 },
+    ghost narrow: { width ≤ 28 },
 }
 
 pub(crate) fn power(bits: u32) -> u64
