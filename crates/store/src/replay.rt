@@ -10,18 +10,16 @@ use parts::store::Store;
 #[derive(Drop)]
 pub struct Replay<'a> {
     words: &'a [u64],
-    next: usize,
     shape: Shape,
 }
 
 impl<'a> Replay<'a> {
     // A replay of the words, which tells this size and this width. The words are only read.
     pub fn new(words: &'a [u64], cells: u64, width: u32) -> Replay<'a>
-        ensures { (result.words.now ≡ words.now) × ((result.next ≡ 0) × ((result.shape.cells ≡ cells) × (result.shape.width ≡ width))) }
+        ensures { (result.words.now ≡ words.now) × ((result.shape.cells ≡ cells) × (result.shape.width ≡ width)) }
     {
         Replay {
             words,
-            next: 0,
             shape: Shape { cells, width },
         }
     }
@@ -30,7 +28,7 @@ impl<'a> Replay<'a> {
 impl Store for Replay<'_> {
     ghost meaning = { replay_meaning };
 
-    ghost state = { λ s. record { words = s.words.now; next = s.next; cells = s.shape.cells; wide = s.shape.width } };
+    ghost state = { λ s. record { words = s.words.now; cells = s.shape.cells; wide = s.shape.width } };
 
     ghost keeps = { replay_keeps };
 
@@ -50,11 +48,11 @@ impl Store for Replay<'_> {
         if !self.shape.is_fit() {
             return Err(bottom_fault(Cause::NoSuchCell, cell));
         }
-        let Some(&word) = self.words.get(self.next) else {
+        let [word, rest @ ..] = self.words else {
             return Err(bottom_fault(Cause::ReplayEnded, cell));
         };
-        self.next += 1;
-        Ok(word)
+        self.words = rest;
+        Ok(*word)
     }
 
     fn write(&mut self, cell: u64, _word: u64) -> Result<(), Fault> {
