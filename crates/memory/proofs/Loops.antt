@@ -7,6 +7,7 @@ use Rattle.memory_laws.specs.Checked.{Memory}
 use Rattle.memory.specs.declared.checked.CheckedMemory.{CheckedMemory}
 use Rattle.memory.specs.View.{view, Does}
 
+-- what the outcome o of a call on c says, where it is r and d
 pub does : {A S T V X : Type 0} {f : S → X} {c d : CheckedMemory S T V} {r : Result A Fault} (o : Memory X T V → Outcome Fault A (Memory X T V)) → o (view f c) ≡ (r, view f d) → Does f c d r o
 does o e = record { answer = sym (ap (λ p. p.0) e); leaves = sym (ap (λ p. p.1) e) }
 
