@@ -1,22 +1,22 @@
 // The checked memory: a layer over any store, which finds out whether the store answered what was last written.
-ghost use Rattle.std.specs.Prelude.{◌≡◌, ◌^◌, ◌<◌, IfSome, IfOk, Ok};
-ghost use Rattle.parts.specs.Outcomes.{settled};
+ghost use Rattle.std.specs.Prelude.{◌≡◌, ◌^◌, ◌<◌, ◌≤◌, cond, nat_lt, IfSome, IfOk, Ok, Err};
 ghost use Rattle.parts.specs.Meaning.{fault};
-ghost use Rattle.memory_laws.specs.Checked.{plain, at_broken, record_of, checkable, height, fetch, put, renewed, cleared, sweep_all, ready, turn, visit, replaced, sweeps, checked, StartsLoyal};
+ghost use Rattle.parts.specs.declared.fault.Cause.TheVariants.{NoSuchCell};
+ghost use Rattle.memory_laws.specs.Checked.{plain, blank, checkable, height, fetch, put, renewed, cleared, sweep_all, ready, turn, visit, replaced, sweeps, checked, StartsLoyal};
 ghost use Rattle.memory_laws.specs.Checked.{made as made_over};
 ghost use Rattle.memory_laws.proofs.CheckedKeeps.{checked_keeps};
-ghost use Rattle.memory.specs.View.{view, Does, unless_any};
+ghost use Rattle.memory.specs.View.{view, Does};
 
+use super::cell::Cell;
 use super::clock::{Clock, power};
 use parts::fault::{Cause, Fault};
+use parts::latch::Latch;
 use parts::store::{MOST_BITS, MOST_CELLS, Store};
 use parts::tally::Tally;
 
 const STAMP_BITS: u32 = 20;
 
 const CLOCK_END: u64 = 1_048_575;
-
-const RECORD_BASE: u64 = 281_474_976_710_656;
 
 #[derive(Drop)]
 pub struct CheckedMemory<S, T: Tally> {
@@ -25,22 +25,14 @@ pub struct CheckedMemory<S, T: Tally> {
     clock: Clock,
     read: T::Value,
     written: T::Value,
-    broken: Option<Fault>,
-}
-
-// The record of a word in a cell.
-fn record_of(cell: u64, word: u64) -> u64
-    requires { (cell < 4096) × (word < 2 ^ 48) }
-    ensures { result ≡ record_of cell word }
-{
-    cell * RECORD_BASE + word
+    latch: Latch<Fault>,
 }
 
 // Whether a store of this size and width can be checked.
 fn is_checkable(size: u64, width: u32) -> bool
     ensures { result ≡ checkable size width }
 {
-    1 <= size && size <= MOST_CELLS && STAMP_BITS < width && width <= MOST_BITS
+    (1..=MOST_CELLS).contains(&size) && (STAMP_BITS + 1..=MOST_BITS).contains(&width)
 }
 
 impl<S: Store, T: Tally> CheckedMemory<S, T> {
@@ -50,58 +42,45 @@ impl<S: Store, T: Tally> CheckedMemory<S, T> {
     {
         Fault {
             cause,
-            height: self.store.height().saturating_add(1),
+            height: self.height(),
             place,
         }
     }
 
-    // A broken memory answers its first fault.
-    fn unbroken(&self) -> Result<(), Fault>
-        ensures { result ≡ unless_any self.now.broken }
+    // The cell of that number, if there is one.
+    fn cell_at(&self, number: u64) -> Result<Cell, Fault>
+        ensures { let s = view S.Store.state self.now in result ≡ cond (nat_lt number s.size) (Ok number) (Err (fault NoSuchCell (height (plain S.Store.meaning) T.Tally.tallying s) number)) }
     {
-        match self.broken {
-            Some(first) => Err(first),
-            None => Ok(()),
-        }
-    }
-
-    // A fault breaks the memory.
-    fn settle<A>(&mut self, res: Result<A, Fault>) -> Result<A, Fault>
-        ensures { Does S.Store.state self.old self.new result (λ s. settled at_broken (res, s)) }
-    {
-        match &res {
-            Ok(_) => {}
-            Err(f) => self.broken = Some(*f),
-        }
-        res
+        self.clock
+            .cell(number)
+            .ok_or_else(|| self.own(Cause::NoSuchCell, number))
     }
 
     // Reads a cell below, tests its word and adds its record to those read; answers the value.
-    fn fetch(&mut self, cell: u64) -> Result<u64, Fault>
-        requires { cell < 4096 }
+    fn fetch(&mut self, cell: Cell) -> Result<u64, Fault>
         ensures does { Does S.Store.state self.old self.new result (fetch (plain S.Store.meaning) T.Tally.tallying cell) }
         ensures clock { self.new.clock ≡ self.old.clock }
         ensures small { IfOk result (λ v. v < 2 ^ self.old.clock.width) }
     {
-        let word = self.store.read(cell)?;
+        let word = self.store.read(cell.number())?;
         if word >= power(self.clock.width + STAMP_BITS) {
-            return Err(self.own(Cause::WiderThanStore, cell));
+            return Err(self.own(Cause::WiderThanStore, cell.number()));
         }
         let base = power(self.clock.width);
         if word / base > self.clock.time {
-            return Err(self.own(Cause::StampAhead, cell));
+            return Err(self.own(Cause::StampAhead, cell.number()));
         }
-        self.read = self.tally.add(self.read, record_of(cell, word));
+        self.read = self.tally.add(self.read, cell.record_of(word));
         Ok(word % base)
     }
 
     // Writes a word below and adds its record to those written.
-    fn put(&mut self, cell: u64, word: u64) -> Result<(), Fault>
-        requires { (cell < 4096) × (word < 2 ^ 48) }
+    fn put(&mut self, cell: Cell, word: u64) -> Result<(), Fault>
+        requires { word < 2 ^ 48 }
         ensures { Does S.Store.state self.old self.new result (put (plain S.Store.meaning) T.Tally.tallying cell word) }
     {
-        self.store.write(cell, word)?;
-        self.written = self.tally.add(self.written, record_of(cell, word));
+        self.store.write(cell.number(), word)?;
+        self.written = self.tally.add(self.written, cell.record_of(word));
         Ok(())
     }
 
@@ -109,10 +88,30 @@ impl<S: Store, T: Tally> CheckedMemory<S, T> {
     fn clear(&mut self) -> Result<(), Fault>
         ensures { Does S.Store.state self.old self.new result (cleared (plain S.Store.meaning) T.Tally.tallying self.old.clock.size) }
     {
-        for cell in 0..self.clock.cells() {
-            self.put(cell, 0)?;
+        for number in 0..self.clock.cells() {
+            self.put(Cell::new(number), 0)?;
         }
         Ok(())
+    }
+
+    // A memory of that size and width of the values, with the clock at 0, nothing read and nothing written.
+    fn blank(store: S, tally: T, size: u64, width: u32) -> Self
+        requires { (size ≤ 4096) × (width ≤ 28) }
+        ensures { view S.Store.state result ≡ blank (plain S.Store.meaning) T.Tally.tallying tally size width (S.Store.state store) }
+    {
+        let start = tally.start();
+        CheckedMemory {
+            store,
+            tally,
+            clock: Clock {
+                size,
+                width,
+                time: 0,
+            },
+            read: start,
+            written: start,
+            latch: Latch::new(),
+        }
     }
 
     // A checked memory over the store, which it clears.
@@ -122,48 +121,23 @@ impl<S: Store, T: Tally> CheckedMemory<S, T> {
     {
         let size = store.size();
         let width = store.width();
-        let start = tally.start();
         if !is_checkable(size, width) {
-            return CheckedMemory {
-                store,
-                tally,
-                clock: Clock {
-                    size: 0,
-                    width: 0,
-                    time: 0,
-                },
-                read: start,
-                written: start,
-                broken: None,
-            };
+            return CheckedMemory::blank(store, tally, 0, 0);
         }
-        let mut memory = CheckedMemory {
-            store,
-            tally,
-            clock: Clock {
-                size,
-                width: width - STAMP_BITS,
-                time: 0,
-            },
-            read: start,
-            written: start,
-            broken: None,
-        };
-        if let Err(f) = memory.clear() {
-            memory.broken = Some(f);
-        }
+        let mut memory = CheckedMemory::blank(store, tally, size, width - STAMP_BITS);
+        let result = memory.clear();
+        let _ = memory.latch.settle(result);
         memory
     }
 
     // The sweep's step at one cell; answers the new tally.
-    fn renew(&mut self, cell: u64, fresh: T::Value) -> Result<T::Value, Fault>
-        requires { cell < 4096 }
+    fn renew(&mut self, cell: Cell, fresh: T::Value) -> Result<T::Value, Fault>
         ensures does { Does S.Store.state self.old self.new result (renewed (plain S.Store.meaning) T.Tally.tallying cell fresh) }
         ensures clock { self.new.clock ≡ self.old.clock }
     {
         let value = self.fetch(cell)?;
-        self.store.write(cell, value)?;
-        Ok(self.tally.add(fresh, record_of(cell, value)))
+        self.store.write(cell.number(), value)?;
+        Ok(self.tally.add(fresh, cell.record_of(value)))
     }
 
     fn sweep_all(&mut self) -> Result<(), Fault>
@@ -172,8 +146,8 @@ impl<S: Store, T: Tally> CheckedMemory<S, T> {
         ensures zero { result ≡ Ok tt → self.new.clock.time ≡ 0 }
     {
         let mut fresh = self.tally.start();
-        for cell in 0..self.clock.cells() {
-            fresh = self.renew(cell, fresh)?;
+        for number in 0..self.clock.cells() {
+            fresh = self.renew(Cell::new(number), fresh)?;
         }
         if !self.tally.same(self.read, self.written) {
             return Err(self.own(Cause::TalliesDiffer, 0));
@@ -196,9 +170,10 @@ impl<S: Store, T: Tally> CheckedMemory<S, T> {
         Ok(())
     }
 
-    // Reads the cell, raises the clock, and writes the new value, or else the one read, with that stamp.
-    fn turn(&mut self, cell: u64, new: Option<u64>) -> Result<u64, Fault>
-        requires cell_bound { cell < 4096 }
+    // Reads the cell, raises the clock, and writes the new value, or else the one read, with that stamp. That a value is below the
+    // limit is asked of these three and is in no type: the limit is the width of this memory, and a value does not know its memory.
+    #[tactic(auto, using(crate::proofs::Values::chosen_below))]
+    fn turn(&mut self, cell: Cell, new: Option<u64>) -> Result<u64, Fault>
         requires time_bound { self.old.clock.time < 1048575 }
         requires some { IfSome new (λ v. v < 2 ^ self.old.clock.width) }
         ensures { Does S.Store.state self.old self.new result (turn (plain S.Store.meaning) T.Tally.tallying cell new) }
@@ -210,17 +185,16 @@ impl<S: Store, T: Tally> CheckedMemory<S, T> {
         Ok(value)
     }
 
-    fn visit(&mut self, cell: u64, new: Option<u64>) -> Result<u64, Fault>
-        requires cell_bound { cell < 4096 }
-        requires some { IfSome new (λ v. v < 2 ^ self.old.clock.width) }
+    fn visit(&mut self, cell: Cell, new: Option<u64>) -> Result<u64, Fault>
+        requires { IfSome new (λ v. v < 2 ^ self.old.clock.width) }
         ensures { Does S.Store.state self.old self.new result (visit (plain S.Store.meaning) T.Tally.tallying cell new) }
     {
         self.ready()?;
         self.turn(cell, new)
     }
 
-    fn replace(&mut self, cell: u64, value: u64) -> Result<(), Fault>
-        requires { (cell < 4096) × (value < 2 ^ self.old.clock.width) }
+    fn replace(&mut self, cell: Cell, value: u64) -> Result<(), Fault>
+        requires { value < 2 ^ self.old.clock.width }
         ensures { Does S.Store.state self.old self.new result (replaced (plain S.Store.meaning) T.Tally.tallying cell value) }
     {
         self.visit(cell, Some(value))?;
@@ -231,9 +205,9 @@ impl<S: Store, T: Tally> CheckedMemory<S, T> {
     pub fn sweep(&mut self) -> Result<(), Fault>
         ensures { Does S.Store.state self.old self.new result (sweeps (plain S.Store.meaning) T.Tally.tallying) }
     {
-        self.unbroken()?;
+        self.latch.unbroken()?;
         let result = self.sweep_all();
-        self.settle(result)
+        self.latch.settle(result)
     }
 
     // Takes the memory apart, and gives the store back.
@@ -248,7 +222,7 @@ impl<S: Store, T: Tally> CheckedMemory<S, T> {
             clock: _,
             read: _,
             written: _,
-            broken: _,
+            latch: _,
         } = self;
         store
     }
@@ -257,7 +231,7 @@ impl<S: Store, T: Tally> CheckedMemory<S, T> {
     pub fn fault(&self) -> Option<Fault>
         ensures { result ≡ (view S.Store.state self.now).broken }
     {
-        self.broken
+        self.latch.fault()
     }
 }
 
@@ -281,23 +255,19 @@ impl<S: Store, T: Tally> Store for CheckedMemory<S, T> {
     }
 
     fn read(&mut self, cell: u64) -> Result<u64, Fault> {
-        self.unbroken()?;
-        if cell >= self.clock.size {
-            return Err(self.own(Cause::NoSuchCell, cell));
-        }
+        self.latch.unbroken()?;
+        let cell = self.cell_at(cell)?;
         let result = self.visit(cell, None);
-        self.settle(result)
+        self.latch.settle(result)
     }
 
     fn write(&mut self, cell: u64, word: u64) -> Result<(), Fault> {
-        self.unbroken()?;
-        if cell >= self.size() {
-            return Err(self.own(Cause::NoSuchCell, cell));
-        }
+        self.latch.unbroken()?;
+        let cell = self.cell_at(cell)?;
         if word >= power(self.clock.width) {
-            return Err(self.own(Cause::WordTooWide, cell));
+            return Err(self.own(Cause::WordTooWide, cell.number()));
         }
         let result = self.replace(cell, word);
-        self.settle(result)
+        self.latch.settle(result)
     }
 }

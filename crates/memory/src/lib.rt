@@ -1,5 +1,6 @@
 // The checked memory.
 #![tactic(auto)]
 
+mod cell;
 pub mod checked;
 mod clock;

@@ -1,5 +1,5 @@
 // A store in the hands of somebody who alters its cells.
-ghost use Rattle.std.specs.Prelude.{◌≡◌, nat_le};
+ghost use Rattle.std.specs.Prelude.{◌≡◌, ◌+◌, ◌-◌, ◌^◌, min};
 ghost use Rattle.store_laws.specs.AlteringMachine.{altering, due};
 ghost use Rattle.store_laws.proofs.AlteringKeeps.{altering_keeps};
 
@@ -26,33 +26,27 @@ impl<'a, S: Store> Altering<'a, S> {
         }
     }
 
-    fn is_due(&self, first: Alteration) -> bool
-        ensures { result ≡ nat_le first.after self.now.count }
-    {
-        first.after <= self.count
-    }
-
-    // Makes one alteration: a write below, whatever the store answers to it.
-    fn make(&mut self, first: Alteration)
-        ensures store { S.Store.state self.new.store ≡ (S.Store.meaning.write (S.Store.state self.old.store) first.cell first.word).1 }
-        ensures coming { self.new.coming.now ≡ self.old.coming.now }
-        ensures count { self.new.count ≡ self.old.count }
-    {
-        let _ = self.store.write(first.cell, first.word);
-    }
-
     // Makes the alterations that are due.
+    #[tactic(auto, using(store_laws::proofs::AlteringKeeps::due_none, store_laws::proofs::AlteringKeeps::due_now, store_laws::proofs::AlteringKeeps::due_later))]
     fn alter(&mut self)
         ensures { record { store = S.Store.state self.new.store; coming = self.new.coming.now; count = self.new.count } ≡ due S.Store.meaning self.old.coming.now self.old.count (S.Store.state self.old.store) }
     {
-        while self.coming.len() > 0 {
-            let first = self.coming[0];
-            if !self.is_due(first) {
+        while let [first, rest @ ..] = self.coming {
+            if first.after > self.count {
                 return;
             }
-            self.make(first);
-            self.coming = &self.coming[1..];
+            // whatever the store answers to it
+            let _ = self.store.write(first.cell, first.word);
+            self.coming = rest;
         }
+    }
+
+    // One access more, before which the alterations that are due are made.
+    fn access(&mut self)
+        ensures { let t = due S.Store.meaning self.old.coming.now self.old.count (S.Store.state self.old.store) in (S.Store.state self.new.store ≡ t.store) × ((self.new.coming.now ≡ t.coming) × (self.new.count ≡ min (2 ^ 64 - 1) (t.count + 1))) }
+    {
+        self.alter();
+        self.count = self.count.saturating_add(1);
     }
 }
 
@@ -76,14 +70,12 @@ impl<S: Store> Store for Altering<'_, S> {
     }
 
     fn read(&mut self, cell: u64) -> Result<u64, Fault> {
-        self.alter();
-        self.count = self.count.saturating_add(1);
+        self.access();
         self.store.read(cell)
     }
 
     fn write(&mut self, cell: u64, word: u64) -> Result<(), Fault> {
-        self.alter();
-        self.count = self.count.saturating_add(1);
+        self.access();
         self.store.write(cell, word)
     }
 }

@@ -1,7 +1,7 @@
 // Stores: two at the bottom of a pile, the array and the replay, and one that somebody with a key alters.
 #![tactic(auto)]
 
-ghost use Rattle.std.specs.Prelude.{◌≡◌};
+ghost use Rattle.std.specs.Prelude.{◌≡◌, cond};
 ghost use Rattle.parts.specs.Meaning.{fit, fault};
 
 use parts::fault::{Cause, Fault};
@@ -13,11 +13,34 @@ pub mod replay;
 
 const BOTTOM_HEIGHT: u8 = 0;
 
-// Whether a store may have n cells of w bits.
-fn fits(n: u64, w: u32) -> bool
-    ensures { result ≡ fit n w }
-{
-    1 <= n && n <= MOST_CELLS && 1 <= w && w <= MOST_BITS
+// The size and the width that a store at the bottom was given.
+#[derive(Clone, Copy)]
+struct Shape {
+    cells: u64,
+    width: u32,
+}
+
+impl Shape {
+    // Whether a store may have so many cells of so many bits.
+    fn is_fit(self) -> bool
+        ensures { result ≡ fit self.cells self.width }
+    {
+        (1..=MOST_CELLS).contains(&self.cells) && (1..=MOST_BITS).contains(&self.width)
+    }
+
+    // The size that the store tells: an unfit one tells 0, so that it declines every call.
+    fn size(self) -> u64
+        ensures { result ≡ cond (fit self.cells self.width) self.cells 0 }
+    {
+        if self.is_fit() { self.cells } else { 0 }
+    }
+
+    // The width that the store tells: an unfit one tells 0.
+    fn width(self) -> u32
+        ensures { result ≡ cond (fit self.cells self.width) self.width 0 }
+    {
+        if self.is_fit() { self.width } else { 0 }
+    }
 }
 
 // A fault that a store at the bottom finds.

@@ -3,28 +3,24 @@ ghost use Rattle.std.specs.Prelude.{◌≡◌};
 ghost use Rattle.store_laws.specs.ReplayMachine.{replay_meaning};
 ghost use Rattle.store_laws.proofs.ReplayKeeps.{replay_keeps};
 
-use super::{BOTTOM_HEIGHT, bottom_fault, fits};
+use super::{BOTTOM_HEIGHT, Shape, bottom_fault};
 use parts::fault::{Cause, Fault};
 use parts::store::Store;
 
 #[derive(Drop)]
 pub struct Replay<'a> {
     words: &'a [u64],
-    next: usize,
-    cells: u64,
-    width: u32,
+    shape: Shape,
 }
 
 impl<'a> Replay<'a> {
     // A replay of the words, which tells this size and this width. The words are only read.
     pub fn new(words: &'a [u64], cells: u64, width: u32) -> Replay<'a>
-        ensures { (result.words.now ≡ words.now) × ((result.next ≡ 0) × ((result.cells ≡ cells) × (result.width ≡ width))) }
+        ensures { (result.words.now ≡ words.now) × ((result.shape.cells ≡ cells) × (result.shape.width ≡ width)) }
     {
         Replay {
             words,
-            next: 0,
-            cells,
-            width,
+            shape: Shape { cells, width },
         }
     }
 }
@@ -32,24 +28,16 @@ impl<'a> Replay<'a> {
 impl Store for Replay<'_> {
     ghost meaning = { replay_meaning };
 
-    ghost state = { λ s. record { words = s.words.now; next = s.next; cells = s.cells; wide = s.width } };
+    ghost state = { λ s. record { words = s.words.now; cells = s.shape.cells; wide = s.shape.width } };
 
     ghost keeps = { replay_keeps };
 
     fn size(&self) -> u64 {
-        if fits(self.cells, self.width) {
-            self.cells
-        } else {
-            0
-        }
+        self.shape.size()
     }
 
     fn width(&self) -> u32 {
-        if fits(self.cells, self.width) {
-            self.width
-        } else {
-            0
-        }
+        self.shape.width()
     }
 
     fn height(&self) -> u8 {
@@ -57,19 +45,18 @@ impl Store for Replay<'_> {
     }
 
     fn read(&mut self, cell: u64) -> Result<u64, Fault> {
-        if !fits(self.cells, self.width) {
+        if !self.shape.is_fit() {
             return Err(bottom_fault(Cause::NoSuchCell, cell));
         }
-        if self.next >= self.words.len() {
+        let [word, rest @ ..] = self.words else {
             return Err(bottom_fault(Cause::ReplayEnded, cell));
-        }
-        let word = self.words[self.next];
-        self.next += 1;
-        Ok(word)
+        };
+        self.words = rest;
+        Ok(*word)
     }
 
     fn write(&mut self, cell: u64, _word: u64) -> Result<(), Fault> {
-        if !fits(self.cells, self.width) {
+        if !self.shape.is_fit() {
             return Err(bottom_fault(Cause::NoSuchCell, cell));
         }
         Ok(())

@@ -1,4 +1,5 @@
-use Rattle.std.proofs.Common.{◌≡◌, ℕ, ◌-◌, ◌<◌, ◌≤◌, true, false, leb, List, [], ◌∷◌, length, get_or, take, drop, refl, arith, take_all}
+use Rattle.std.proofs.Common.{◌≡◌, ℕ, ◌-◌, ◌<◌, ◌≤◌, List, [], ◌∷◌, length, get_or, take, drop, refl, arith, take_all}
+use Rattle.std.proofs.lemmas.Bool.{le-leb, lt-leb}
 use Rattle.parts.specs.Meaning.{Meaning, Keeps, Holds}
 use Rattle.store_laws.specs.declared.Alteration.{Alteration}
 use Rattle.store_laws.specs.AlteringMachine.{Altered, due, after_due, altering}
@@ -11,17 +12,17 @@ module _ (m : Meaning) where
   due_none (x ∷ xs) n s le = absurd (omega arith)
 
   -- the first is due now
-  pub due_now : (xs : List Alteration) (d : Alteration) (n : ℕ) (s : m.State) → 0 < length xs → leb (get_or xs 0 d).after n ≡ true →
+  pub due_now : (xs : List Alteration) (d : Alteration) (n : ℕ) (s : m.State) → 0 < length xs → (get_or xs 0 d).after ≤ n →
       due m (take (length xs - 1) (drop 1 xs)) n (m.write s (get_or xs 0 d).cell (get_or xs 0 d).word).1 ≡ due m xs n s
   unfolding due
   due_now [] d n s lt le = absurd (omega arith)
-  due_now (x ∷ xs) d n s lt le = rw (le, take_all (length (x ∷ xs) - 1) xs (omega arith)) refl
+  due_now (x ∷ xs) d n s lt le = rw (le-leb x.after n le, take_all (length (x ∷ xs) - 1) xs (omega arith)) refl
 
   -- the first is due later
-  pub due_later : (xs : List Alteration) (d : Alteration) (n : ℕ) (s : m.State) → 0 < length xs → leb (get_or xs 0 d).after n ≡ false → due m xs n s ≡ record { store = s; coming = xs; count = n }
+  pub due_later : (xs : List Alteration) (d : Alteration) (n : ℕ) (s : m.State) → 0 < length xs → n < (get_or xs 0 d).after → due m xs n s ≡ record { store = s; coming = xs; count = n }
   unfolding due
   due_later [] d n s lo lt = absurd (omega arith)
-  due_later (x ∷ xs) d n s lo lt = rw lt refl
+  due_later (x ∷ xs) d n s lo lt = rw (lt-leb x.after n lt) refl
 
   module _ (k : Keeps m) where
     settled : (s : Altered m.State) → s.coming ≡ [] → after_due m s ≡ s

@@ -1,4 +1,6 @@
-// The two tallies, over a mix of the record under a key.
+// The two tallies, over a mix of the record under a key. Both are impls of `Tally`, the trait that has the laws, and differ in one
+// operation. A struct over the operation is no plainer: it takes a second trait with the laws again, a type for each operation, and
+// a field for that type in every literal `Sum { key }`, in place of two bodies of a line.
 #![tactic(auto)]
 
 ghost use Rattle.std.specs.Prelude.{◌≡◌};

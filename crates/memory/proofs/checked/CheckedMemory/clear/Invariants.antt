@@ -3,7 +3,7 @@ use Rattle.memory_laws.specs.Checked.{plain, cleared}
 use Rattle.memory.specs.View.{view}
 use Rattle.memory.proofs.checked.CheckedMemory.clear.Given as goal
 
-abbrev pub invariant-loop-cell : goal.invariant-loop-cell
-invariant-loop-cell g l =
+abbrev pub invariant-loop-number : goal.invariant-loop-number
+invariant-loop-number g l =
     let f = g.S.Store.state in
-    cleared (plain g.S.Store.meaning) g.T.Tally.tallying l.cell (view f l.initial.self) ≡ (Ok tt, view f l.self)
+    cleared (plain g.S.Store.meaning) g.T.Tally.tallying l.number (view f l.initial.self) ≡ (Ok tt, view f l.self)

@@ -4,4 +4,4 @@ use Rattle.memory.proofs.checked.CheckedMemory.fetch.Goals as goal
 
 pub record_of-requires : goal.record_of-requires
 record_of-requires g c =
-    (c.requires, word_low c.args.self.now.clock.width c.in_ok-word.word c.args.self.now.clock.ok.2 (omega (arith, c.power.ensures, c.if-word-power.false)))
+    word_low c.args.self.now.clock.width c.in_ok-word.word c.args.self.now.clock.narrow (omega (arith, c.power.ensures, c.if-word-power.false))

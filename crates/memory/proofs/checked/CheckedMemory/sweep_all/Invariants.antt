@@ -3,8 +3,8 @@ use Rattle.memory_laws.specs.Checked.{plain, swept}
 use Rattle.memory.specs.View.{view}
 use Rattle.memory.proofs.checked.CheckedMemory.sweep_all.Given as goal
 
-abbrev pub invariant-loop-cell : goal.invariant-loop-cell
-invariant-loop-cell g l =
+abbrev pub invariant-loop-number : goal.invariant-loop-number
+invariant-loop-number g l =
     let f = g.S.Store.state in
     (l.self.clock ≡ l.initial.self.clock) ×
-    (swept (plain g.S.Store.meaning) g.T.Tally.tallying l.cell (view f l.initial.self) ≡ (Ok l.fresh, view f l.self))
+    (swept (plain g.S.Store.meaning) g.T.Tally.tallying l.number (view f l.initial.self) ≡ (Ok l.fresh, view f l.self))
