@@ -8,7 +8,8 @@ use super::kind::{Kind, Line};
 use std::alloc::{AllocError, Global};
 use store_laws::Alteration;
 use words::reason::Reason;
-use words::words::{Words, is};
+use words::statement::Statement;
+use words::words::Words;
 
 // A section as far as it is read.
 #[derive(Drop)]
@@ -51,14 +52,13 @@ impl<'a, K: Kind> Plan<'a, K> {
         })
     }
 
-    // What a line says by its first word and those after it.
-    fn said(name: &[u8], words: &mut Words<'_>) -> Result<Line<K::Setting, K::Call>, Reason>
-        ensures { result ≡ line_said K.Kind.reading name.now (left words.old) }
+    // What a line says.
+    fn read(said: &mut Statement<'_>) -> Result<Line<K::Setting, K::Call>, Reason>
+        ensures { result ≡ line_said K.Kind.reading said.old.name.now (left said.old.words) }
     {
-        if is(name, "alter") {
-            Ok(Line::Alters(alteration(words)?))
-        } else {
-            K::line(name, words)
+        match said.name {
+            b"alter" => Ok(Line::Alters(alteration(&mut said.words)?)),
+            _ => K::line(said),
         }
     }
 
@@ -88,10 +88,10 @@ impl<'a, K: Kind> Plan<'a, K> {
     }
 
     // What a line says here.
-    fn line(&self, name: &[u8], words: &mut Words<'_>) -> Result<Line<K::Setting, K::Call>, Reason>
-        ensures { result ≡ read_line K.Kind.reading self.now name.now (left words.old) }
+    fn line(&self, said: &mut Statement<'_>) -> Result<Line<K::Setting, K::Call>, Reason>
+        ensures { result ≡ read_line K.Kind.reading self.now said.old.name.now (left said.old.words) }
     {
-        let line = Plan::<'a, K>::said(name, words)?;
+        let line = Plan::<'a, K>::read(said)?;
         self.admit(line)?;
         Ok(line)
     }
@@ -111,13 +111,12 @@ impl<'a, K: Kind> Plan<'a, K> {
     // Takes in a line after the first, unless it makes no sense.
     pub fn take(
         &mut self,
-        name: &[u8],
-        words: &mut Words<'_>,
+        said: &mut Statement<'_>,
         text: &'a [u8],
     ) -> Result<Result<(), Reason>, AllocError>
-        ensures { IfOk result (λ t. Takes K.Kind.reading (read_line K.Kind.reading self.old name.now (left words.old)) self.old text.entry self.new t) }
+        ensures { IfOk result (λ t. Takes K.Kind.reading (read_line K.Kind.reading self.old said.old.name.now (left said.old.words)) self.old text.entry self.new t) }
     {
-        match self.line(name, words) {
+        match self.line(said) {
             Ok(line) => self.add(line, text)?,
             Err(reason) => return Ok(Err(reason)),
         }
