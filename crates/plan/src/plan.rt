@@ -33,10 +33,7 @@ fn alteration(words: &mut Words<'_>) -> Result<Alteration, Reason>
 fn rises_to(alterations: &[Alteration], after: u64) -> bool
     ensures { result ≡ nat_le (last_after alterations.now) after }
 {
-    match alterations.last() {
-        Some(last) => last.after <= after,
-        None => true,
-    }
+    alterations.last().is_none_or(|last| last.after <= after)
 }
 
 impl<'a, K: Kind> Plan<'a, K> {
@@ -53,7 +50,7 @@ impl<'a, K: Kind> Plan<'a, K> {
     }
 
     // What a line says.
-    fn read(said: &mut Statement<'_>) -> Result<Line<K::Setting, K::Call>, Reason>
+    pub fn read(said: &mut Statement<'_>) -> Result<Line<K::Setting, K::Call>, Reason>
         ensures { result ≡ line_said K.Kind.reading said.old.name.now (left said.old.words) }
     {
         match said.name {
@@ -88,16 +85,16 @@ impl<'a, K: Kind> Plan<'a, K> {
     }
 
     // What a line says here.
-    fn line(&self, said: &mut Statement<'_>) -> Result<Line<K::Setting, K::Call>, Reason>
+    pub fn line(&self, said: &mut Statement<'_>) -> Result<Line<K::Setting, K::Call>, Reason>
         ensures { result ≡ read_line K.Kind.reading self.now said.old.name.now (left said.old.words) }
     {
-        let line = Plan::<'a, K>::read(said)?;
+        let line = Self::read(said)?;
         self.admit(line)?;
         Ok(line)
     }
 
     // Takes in what a line says; its text is that of a call.
-    fn add(&mut self, line: Line<K::Setting, K::Call>, text: &'a [u8]) -> Result<(), AllocError>
+    pub fn add(&mut self, line: Line<K::Setting, K::Call>, text: &'a [u8]) -> Result<(), AllocError>
         ensures { OnOk result (Added K.Kind.reading self.old line text.entry self.new) }
     {
         match line {
@@ -108,7 +105,8 @@ impl<'a, K: Kind> Plan<'a, K> {
         Ok(())
     }
 
-    // Takes in a line after the first, unless it makes no sense.
+    // Takes in a line after the first, unless it makes no sense. One error for a line that makes no sense and for want of memory would
+    // be no plainer: the first spoils the section, the second ends the reading, and each caller would take them apart again.
     pub fn take(
         &mut self,
         said: &mut Statement<'_>,

@@ -39,3 +39,14 @@ pub no_lines : (text : List ℕ) → length text ≡ 0 → lines text ≡ []
 unfolding lines
 no_lines [] e = refl
 no_lines (b ∷ bs) e = absurd (omega arith)
+
+few_by : (b : ℕ) (ls : List (List ℕ)) (t : Bool) (n : ℕ) → length ls ≤ n → length (cond t (onto_first b ls) ([] ∷ ls)) ≤ n + 1
+few_by b ls false n h = omega arith
+few_by b [] true n h = omega arith
+few_by b (l ∷ ls) true n h = omega arith
+
+-- no more lines than bytes
+pub few_lines : (text : List ℕ) → length (lines text) ≤ length text
+unfolding lines
+few_lines [] = omega arith
+few_lines (b ∷ bs) = omega (arith, few_by b (lines bs) (inner b) (length bs) (few_lines bs))

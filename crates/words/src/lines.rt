@@ -1,5 +1,5 @@
 // The lines of a script.
-ghost use Rattle.std.specs.Prelude.{◌≡◌, ◌<◌, ◌∷◌, length};
+ghost use Rattle.std.specs.Prelude.{◌≡◌, ◌<◌, ◌≤◌, ◌∷◌, length};
 ghost use Rattle.std.specs.Iterator.{YieldsFirstRef, item_count};
 ghost use Rattle.std.specs.List.{position};
 ghost use Rattle.words.specs.Words.{ends_line, lines};
@@ -31,7 +31,8 @@ pub struct Lines<'a> {
 
 impl<'a> Lines<'a> {
     pub fn new(text: &'a [u8]) -> Lines<'a>
-        ensures { lines_left result ≡ lines text.now }
+        ensures left { lines_left result ≡ lines text.now }
+        ensures few { length (lines_left result) ≤ length text.now }
     {
         Lines { rest: text }
     }
