@@ -5,6 +5,7 @@ ghost use Rattle.plan.specs.Kinds.{Reading, plain_said};
 
 use store_laws::Alteration;
 use words::reason::Reason;
+use words::statement::Statement;
 use words::words::Words;
 
 // What a line of a section says.
@@ -35,9 +36,9 @@ pub trait Kind: Sized {
     fn begin(words: &mut Words<'_>) -> Result<Self, Reason>
         ensures { result ≡ reading.begun (left words.old) };
 
-    // What another line says by its first word and those after it, alterations apart.
-    fn line(name: &[u8], words: &mut Words<'_>) -> Result<Line<Self::Setting, Self::Call>, Reason>
-        ensures { result ≡ reading.said name.now (left words.old) };
+    // What another line says, alterations apart.
+    fn line(said: &mut Statement<'_>) -> Result<Line<Self::Setting, Self::Call>, Reason>
+        ensures { result ≡ reading.said said.old.name.now (left said.old.words) };
 
     // Whether such a setting was given.
     fn has(&self, setting: Self::Setting) -> bool

@@ -8,7 +8,8 @@ use super::kind::{Kind, Line};
 use std::alloc::{AllocError, Global};
 use store_laws::Alteration;
 use words::reason::Reason;
-use words::words::{Words, is};
+use words::statement::Statement;
+use words::words::Words;
 
 // A section as far as it is read.
 #[derive(Drop)]
@@ -32,10 +33,7 @@ fn alteration(words: &mut Words<'_>) -> Result<Alteration, Reason>
 fn rises_to(alterations: &[Alteration], after: u64) -> bool
     ensures { result ≡ nat_le (last_after alterations.now) after }
 {
-    match alterations.last() {
-        Some(last) => last.after <= after,
-        None => true,
-    }
+    alterations.last().is_none_or(|last| last.after <= after)
 }
 
 impl<'a, K: Kind> Plan<'a, K> {
@@ -51,14 +49,13 @@ impl<'a, K: Kind> Plan<'a, K> {
         })
     }
 
-    // What a line says by its first word and those after it.
-    fn said(name: &[u8], words: &mut Words<'_>) -> Result<Line<K::Setting, K::Call>, Reason>
-        ensures { result ≡ line_said K.Kind.reading name.now (left words.old) }
+    // What a line says.
+    pub fn read(said: &mut Statement<'_>) -> Result<Line<K::Setting, K::Call>, Reason>
+        ensures { result ≡ line_said K.Kind.reading said.old.name.now (left said.old.words) }
     {
-        if is(name, "alter") {
-            Ok(Line::Alters(alteration(words)?))
-        } else {
-            K::line(name, words)
+        match said.name {
+            b"alter" => Ok(Line::Alters(alteration(&mut said.words)?)),
+            _ => K::line(said),
         }
     }
 
@@ -88,16 +85,16 @@ impl<'a, K: Kind> Plan<'a, K> {
     }
 
     // What a line says here.
-    fn line(&self, name: &[u8], words: &mut Words<'_>) -> Result<Line<K::Setting, K::Call>, Reason>
-        ensures { result ≡ read_line K.Kind.reading self.now name.now (left words.old) }
+    pub fn line(&self, said: &mut Statement<'_>) -> Result<Line<K::Setting, K::Call>, Reason>
+        ensures { result ≡ read_line K.Kind.reading self.now said.old.name.now (left said.old.words) }
     {
-        let line = Plan::<'a, K>::said(name, words)?;
+        let line = Self::read(said)?;
         self.admit(line)?;
         Ok(line)
     }
 
     // Takes in what a line says; its text is that of a call.
-    fn add(&mut self, line: Line<K::Setting, K::Call>, text: &'a [u8]) -> Result<(), AllocError>
+    pub fn add(&mut self, line: Line<K::Setting, K::Call>, text: &'a [u8]) -> Result<(), AllocError>
         ensures { OnOk result (Added K.Kind.reading self.old line text.entry self.new) }
     {
         match line {
@@ -108,16 +105,16 @@ impl<'a, K: Kind> Plan<'a, K> {
         Ok(())
     }
 
-    // Takes in a line after the first, unless it makes no sense.
+    // Takes in a line after the first, unless it makes no sense. One error for a line that makes no sense and for want of memory would
+    // be no plainer: the first spoils the section, the second ends the reading, and each caller would take them apart again.
     pub fn take(
         &mut self,
-        name: &[u8],
-        words: &mut Words<'_>,
+        said: &mut Statement<'_>,
         text: &'a [u8],
     ) -> Result<Result<(), Reason>, AllocError>
-        ensures { IfOk result (λ t. Takes K.Kind.reading (read_line K.Kind.reading self.old name.now (left words.old)) self.old text.entry self.new t) }
+        ensures { IfOk result (λ t. Takes K.Kind.reading (read_line K.Kind.reading self.old said.old.name.now (left said.old.words)) self.old text.entry self.new t) }
     {
-        match self.line(name, words) {
+        match self.line(said) {
             Ok(line) => self.add(line, text)?,
             Err(reason) => return Ok(Err(reason)),
         }

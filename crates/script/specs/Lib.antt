@@ -1,3 +1,3 @@
+pub mod Stores
 pub mod Cards
-pub mod CardSections
 pub mod Sections

@@ -1,6 +1,6 @@
 // Text to sections.
 #![tactic(auto)]
 
-pub mod calls;
 pub mod card;
+pub mod cells;
 pub mod section;

@@ -1,127 +1,124 @@
 // A script: its sections.
-ghost use Rattle.std.specs.Prelude.{◌≡◌, true, false, [], IfOk, MatchOption, OnOk};
+ghost use Rattle.std.specs.Prelude.{◌≡◌, true, false, [], Ok, IfOk, MatchOption, OnOk};
 ghost use Rattle.words.specs.Taken.{left};
 ghost use Rattle.words.specs.Words.{words, lines};
-ghost use Rattle.script.specs.CardSections.{card_said};
-ghost use Rattle.script.specs.Sections.{begins, Begun, Took, comment, Goes, LineTook, ScriptTook};
+ghost use Rattle.script.specs.Cards.{card_said};
+ghost use Rattle.script.specs.Sections.{begins, bad_line, Begun, Took, comment, Goes, LineTook, ScriptTook};
 
 use super::card::Card;
+use plan::plan::Plan;
 use std::alloc::{AllocError, Global};
-use words::lines::split_line;
+use words::lines::Lines;
 use words::reason::{BadLine, Reason};
-use words::words::{Words, is, trim};
+use words::statement::Statement;
+use words::words::trim;
 
-// A section of one of the kinds, or its first line that makes no sense. The lines before the first section make a section of their own,
-// in which none makes sense.
+// A section of one of the kinds.
 #[derive(Drop)]
 pub enum Section<'a> {
-    Card(Card<'a>),
-    Bad(BadLine),
+    Card(Plan<'a, Card>),
+}
+
+// A line of the script that has a word: its number, its text without the white space at its ends, and what it says.
+#[derive(Drop)]
+struct Line<'a> {
+    number: u64,
+    text: &'a [u8],
+    said: Statement<'a>,
+}
+
+impl<'a> Line<'a> {
+    // The line as one that makes no sense.
+    fn bad(&self, reason: Reason) -> BadLine
+        ensures { result ≡ bad_line self.now.number reason }
+    {
+        BadLine {
+            line: self.number,
+            reason,
+        }
+    }
 }
 
 impl<'a> Section<'a> {
     // The section that the line begins, if its first word is a section's.
-    fn begin(heap: Global, line: u64, name: &[u8], words: &mut Words<'_>) -> Option<Section<'a>>
-        ensures { MatchOption result ((begins name.now ≡ false) × (left words.new ≡ left words.old)) (λ s. (begins name.now ≡ true) × Begun line (card_said (left words.old)) s) }
+    fn begin(heap: Global, line: &mut Line<'_>) -> Option<Result<Section<'a>, BadLine>>
+        ensures { MatchOption result ((begins line.old.said.name.now ≡ false) × (line.new ≡ line.old)) (λ s. (begins line.old.said.name.now ≡ true) × Begun line.old.number (card_said (left line.old.said.words)) s) }
     {
-        if !is(name, "card") {
-            return None;
-        }
-        match Card::begin(heap, words) {
-            Ok(card) => Some(Section::Card(card)),
-            Err(reason) => Some(Section::Bad(BadLine { line, reason })),
+        match line.said.name {
+            b"card" => match Plan::begin(heap, &mut line.said.words) {
+                Ok(plan) => Some(Ok(Section::Card(plan))),
+                Err(reason) => Some(Err(line.bad(reason))),
+            },
+            _ => None,
         }
     }
 
-    // Takes in a line after the first; one that makes no sense spoils the section.
-    fn take(
-        &mut self,
-        line: u64,
-        name: &[u8],
-        words: &mut Words<'_>,
-        text: &'a [u8],
-    ) -> Result<(), AllocError>
-        ensures { OnOk result (Took line name.now (left words.old) text.entry self.old self.new) }
+    // The section after a line that goes to it; one that makes no sense spoils it.
+    fn after(self, line: &mut Line<'a>) -> Result<Result<Section<'a>, BadLine>, AllocError>
+        ensures { IfOk result (λ after. Took line.old.number line.old.said.name.now (left line.old.said.words) line.old.text (Ok self.entry) after) }
     {
-        let reason = match self {
-            Section::Card(card) => match card.line(name, words) {
-                Ok(said) => return card.add(said, text),
-                Err(reason) => reason,
+        match self {
+            Section::Card(mut plan) => match plan.take(&mut line.said, line.text)? {
+                Ok(()) => Ok(Ok(Section::Card(plan))),
+                Err(reason) => Ok(Err(line.bad(reason))),
             },
-            Section::Bad(_) => return Ok(()),
-        };
-        *self = Section::Bad(BadLine { line, reason });
-        Ok(())
+        }
     }
 }
 
 fn is_comment(name: &[u8]) -> bool
     ensures { result ≡ comment name.now }
 {
-    match name {
-        [first, ..] => *first == b'#',
-        [] => false,
-    }
+    matches!(name, [b'#', ..])
 }
 
 // Hands a line to the last section; where there is none, the line makes no sense.
 fn go_on<'a>(
-    sections: &mut Vec<Section<'a>>,
-    line: u64,
-    name: &[u8],
-    words: &mut Words<'_>,
-    text: &'a [u8],
+    sections: &mut Vec<Result<Section<'a>, BadLine>>,
+    line: &mut Line<'a>,
 ) -> Result<(), AllocError>
-    ensures { OnOk result (Goes line name.now (left words.old) text.entry sections.old.items sections.new.items) }
+    ensures { OnOk result (Goes line.old.number line.old.said.name.now (left line.old.said.words) line.old.text sections.old.items sections.new.items) }
 {
-    match sections.pop() {
-        Some(mut section) => {
-            section.take(line, name, words, text)?;
-            sections.push(section)?;
-        }
-        None => sections.push(Section::Bad(BadLine {
-            line,
-            reason: Reason::NoSection,
-        }))?,
-    }
+    let section = match sections.pop() {
+        Some(Ok(section)) => section.after(line)?,
+        Some(Err(bad)) => Err(bad),
+        None => Err(line.bad(Reason::NoSection)),
+    };
+    sections.push(section)?;
     Ok(())
 }
 
 // Takes in a line of the script, without the white space at its ends.
 fn take_line<'a>(
-    sections: &mut Vec<Section<'a>>,
+    sections: &mut Vec<Result<Section<'a>, BadLine>>,
     heap: Global,
-    line: u64,
+    number: u64,
     text: &'a [u8],
 ) -> Result<(), AllocError>
-    ensures { OnOk result (LineTook line (words text.now) text.entry sections.old.items sections.new.items) }
+    ensures { OnOk result (LineTook number (words text.now) text.entry sections.old.items sections.new.items) }
 {
-    let mut words = Words::new(text);
-    let Some(name) = words.next() else {
+    let Some(said) = Statement::of(text) else {
         return Ok(());
     };
-    if is_comment(name) {
+    if is_comment(said.name) {
         return Ok(());
     }
-    match Section::begin(heap, line, name, &mut words) {
+    let mut line = Line { number, text, said };
+    match Section::begin(heap, &mut line) {
         Some(section) => sections.push(section)?,
-        None => go_on(sections, line, name, &mut words, text)?,
+        None => go_on(sections, &mut line)?,
     }
     Ok(())
 }
 
-// The sections of a script, in their order.
-pub fn parse(heap: Global, script: &[u8]) -> Result<Vec<Section<'_>>, AllocError>
+// The sections of a script, in their order. In place of one that has a line that makes no sense stands the first such line. The lines
+// before the first section make a section of their own, in which none makes sense.
+pub fn parse(heap: Global, script: &[u8]) -> Result<Vec<Result<Section<'_>, BadLine>>, AllocError>
     ensures { IfOk result (λ v. ScriptTook 0 (lines script.now) [] v.items) }
 {
     let mut sections = Vec::new(heap);
-    let mut line: u64 = 0;
-    let mut rest = script;
-    while !rest.is_empty() {
-        let (text, after) = split_line(rest);
-        line += 1;
-        take_line(&mut sections, heap, line, trim(text))?;
-        rest = after;
+    for (index, text) in Lines::new(script).enumerate() {
+        take_line(&mut sections, heap, index as u64 + 1, trim(text))?;
     }
     Ok(sections)
 }

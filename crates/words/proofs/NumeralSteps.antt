@@ -1,16 +1,14 @@
 -- Reading a numeral byte by byte.
-use Rattle.std.proofs.Common.{◌≡◌, ℕ, zero, suc, ◌+◌, ◌*◌, ◌^◌, ◌<◌, ◌≤◌, Bool, true, false, ◌&&◌, ltb, List, [], ◌∷◌, ◌++◌, length, get_or, take, Some, None, sym, refl, ap, ◌∙◌, mul-le-mul_left, arith}
+use Rattle.std.proofs.Common.{◌≡◌, ℕ, zero, suc, ◌+◌, ◌*◌, ◌^◌, ◌<◌, ◌≤◌, true, false, ◌&&◌, ltb, List, [], ◌∷◌, ◌++◌, length, get_or, take, Some, None, sym, refl, ap, ◌∙◌, arith}
+use Rattle.std.proofs.Math.Bool.{and-false}
 use Rattle.std.proofs.lemmas.Int.Digits.{digits_value_more}
 use Rattle.std.proofs.lemmas.List.{take_more}
+use Rattle.std.proofs.lemmas.Str.Parse.{digits_value-take-le}
 use Rattle.std.proofs.lemmas.Bool.{lt-ltb, le-ltb}
 use Rattle.std.proofs.lemmas.Bool.Decides.{nat_tests}
-use Rattle.std.specs.Str.Parse.{digits_value, digits_value_after}
+use Rattle.std.specs.Str.Parse.{digits_value}
 use Rattle.std.specs.Char.{digit_value}
 use Rattle.words.specs.Numerals.{all_digits, numeral, numbered}
-
-and_false : (b : Bool) → (b && false) ≡ false
-and_false true = refl
-and_false false = refl
 
 all_push : (radix : ℕ) (ds : List ℕ) (c : ℕ) → all_digits radix ds ≡ true → digit_value c < radix → all_digits radix (ds ++ (c ∷ [])) ≡ true
 all_push radix [] c h lt = rw (lt-ltb (digit_value c) radix lt) refl
@@ -25,34 +23,23 @@ all_more radix w i lt h d = ap (all_digits radix) (take_more w i 0 lt) ∙ all_p
 not_all : (radix : ℕ) (w : List ℕ) (i : ℕ) → i < length w → radix ≤ digit_value (get_or w i 0) → all_digits radix w ≡ false
 not_all radix [] i lt h = absurd (omega arith)
 not_all radix (c ∷ cs) zero lt h = ap (λ t. t && all_digits radix cs) (le-ltb (digit_value c) radix h)
-not_all radix (c ∷ cs) (suc i) lt h = ap (λ t. ltb (digit_value c) radix && t) (not_all radix cs i (omega arith) h) ∙ and_false (ltb (digit_value c) radix)
-
-after_ge : (radix n : ℕ) (ds : List ℕ) → 0 < radix → n ≤ digits_value_after radix n ds
-after_ge radix n [] pos = omega arith
-after_ge radix n (c ∷ cs) pos =
-    let h : n ≤ n * radix = omega (arith, mul-le-mul_left {m = 1} {n = radix} n (omega arith)) in
-    omega (arith, after_ge radix (n * radix + digit_value c) cs pos)
-
-after_take : (radix n : ℕ) (w : List ℕ) (i : ℕ) → 0 < radix → digits_value_after radix n (take i w) ≤ digits_value_after radix n w
-after_take radix n w zero pos = after_ge radix n w pos
-after_take radix n [] (suc i) pos = omega arith
-after_take radix n (c ∷ cs) (suc i) pos = after_take radix (n * radix + digit_value c) cs i pos
+not_all radix (c ∷ cs) (suc i) lt h = ap (λ t. ltb (digit_value c) radix && t) (not_all radix cs i (omega arith) h) ∙ and-false (ltb (digit_value c) radix)
 
 pub no_digit_none : (radix : ℕ) (w : List ℕ) → length w ≡ 0 → numbered radix w ≡ None
 unfolding numbered
 no_digit_none radix [] e = refl
 no_digit_none radix (c ∷ cs) e = absurd (omega arith)
 
-pub other_none : (radix : ℕ) (w : List ℕ) (i : ℕ) → i < length w → radix ≤ digit_value (get_or w i 0) → numbered radix w ≡ None
+pub other_none : (radix : ℕ) (w : List ℕ) (i : ℕ) → i < length w → (digit_value (get_or w i 0) < radix → ⊥) → numbered radix w ≡ None
 unfolding numbered
-other_none radix w i lt h = rw (not_all radix w i lt h, and_false (ltb 0 (length w))) refl
+other_none radix w i lt h = rw (not_all radix w i lt (omega (arith, h)), and-false (ltb 0 (length w))) refl
 
 -- the number so far times the radix, and the digit, do not fit
-pub large_none : (radix : ℕ) (w : List ℕ) (i : ℕ) → i < length w → digit_value (get_or w i 0) < radix → 2 ^ 64 ≤ digits_value radix (take i w) * radix + digit_value (get_or w i 0) → numbered radix w ≡ None
+pub large_none : (radix : ℕ) (w : List ℕ) (i : ℕ) → 1 ≤ radix → i < length w → digit_value (get_or w i 0) < radix → 2 ^ 64 ≤ digits_value radix (take i w) * radix + digit_value (get_or w i 0) → numbered radix w ≡ None
 unfolding numbered
-large_none radix w i lt d h =
-    let big : 2 ^ 64 ≤ digits_value radix w = omega (arith, digits_value_more radix w i lt, after_take radix 0 w (i + 1) (omega arith)) in
-    rw (le-ltb (digits_value radix w) (2 ^ 64) big, and_false (numeral radix w)) refl
+large_none radix w i pos lt d h =
+    let big : 2 ^ 64 ≤ digits_value radix w = omega (arith, digits_value_more radix w i lt, digits_value-take-le radix w (i + 1) pos) in
+    rw (le-ltb (digits_value radix w) (2 ^ 64) big, and-false (numeral radix w)) refl
 
 pub read_some : (radix : ℕ) (w : List ℕ) (n : ℕ) → 0 < length w → all_digits radix w ≡ true → n ≡ digits_value radix w → n < 2 ^ 64 → numbered radix w ≡ Some n
 unfolding numbered

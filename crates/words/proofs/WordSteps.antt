@@ -42,10 +42,11 @@ first_word [] some = absurd (omega arith)
 first_word (b ∷ bs) some = word_by b bs (white b) (begins_dark bs) refl (first_word bs) some
 
 -- after the gap of g bytes, a word of n
-pub taken_none : (line mid : List ℕ) (g n : ℕ) → g ≡ prefix_len white line → mid ≡ drop g line → n ≡ prefix_len dark mid → n ≡ 0 → words line ≡ []
-taken_none line mid g n p q r z =
+pub taken_none : (line mid rest : List ℕ) (g n : ℕ) → g ≡ prefix_len white line → mid ≡ drop g line → n ≡ prefix_len dark mid → rest ≡ drop n mid → n ≡ 0 → (words line ≡ []) × (words rest ≡ [])
+taken_none line mid rest g n p q r s z =
     let e : mid ≡ drop (prefix_len white line) line = q ∙ ap (λ k. drop k line) p in
-    no_word line (sym (ap (prefix_len dark) e) ∙ (sym r ∙ z))
+    let none : words line ≡ [] = no_word line (sym (ap (prefix_len dark) e) ∙ (sym r ∙ z)) in
+    (none, ap words (s ∙ (ap (λ k. drop k mid) z ∙ e)) ∙ (gap_skipped line ∙ none))
 
 pub taken_word : (line mid word rest : List ℕ) (g n : ℕ) → g ≡ prefix_len white line → mid ≡ drop g line → n ≡ prefix_len dark mid → word ≡ take n mid → rest ≡ drop n mid → 0 < n → words line ≡ word ∷ words rest
 taken_word line mid word rest g n p q r s t some =

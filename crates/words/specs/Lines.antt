@@ -1,5 +1,7 @@
 -- Why a line makes no sense.
-use Rattle.std.specs.Prelude.{ℕ, cond, List, Ok, Err, codes, Result, ◌==◌}
+use Rattle.std.specs.Prelude.{ℕ, cond, List, ◌++◌, Ok, Err, codes, Result, ◌==◌}
+use Rattle.std.specs.Fmt.{decimal}
+use Rattle.words.specs.declared.reason.BadLine.{BadLine}
 use Rattle.words.specs.declared.reason.Reason.{Reason}
 use Rattle.words.specs.declared.reason.Reason.TheVariants.{UnknownWord, MissingWord, ExtraWord, NotANumber, NotAKey, NoSection, SettingAfterCall, SettingTwice, NotRising}
 
@@ -13,6 +15,10 @@ text_of NoSection = codes "no section has begun"
 text_of SettingAfterCall = codes "a setting after the first call"
 text_of SettingTwice = codes "a setting given twice"
 text_of NotRising = codes "alterations not by rising AFTER"
+
+-- line N: and the reason
+abbrev pub bad_text : BadLine → List ℕ
+bad_text bad = codes "line " ++ (decimal bad.line ++ (codes ": " ++ text_of bad.reason))
 
 -- a setting, after so many calls
 abbrev pub setting_at : ℕ → Result (Unit {0}) Reason

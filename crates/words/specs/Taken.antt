@@ -1,10 +1,15 @@
--- Words taken from the front of what is left of a line.
+-- Lines taken from the front of what is left of a text, and words from what is left of a line.
 use Rattle.std.specs.Prelude.{ℕ, List, [], ◌∷◌, Ok, Err, Result}
 use Rattle.words.specs.declared.reason.Reason.{Reason}
 use Rattle.words.specs.declared.reason.Reason.TheVariants.{MissingWord, ExtraWord}
+use Rattle.words.specs.declared.lines.Lines.{Lines}
 use Rattle.words.specs.declared.words.Words.{Words}
 use Rattle.words.specs.Numerals.{number_of, key_of}
-use Rattle.words.specs.Words.{words}
+use Rattle.words.specs.Words.{words, lines}
+
+-- the lines that are left
+abbrev pub lines_left : Lines → List (List ℕ)
+lines_left ls = lines ls.rest.now
 
 -- the words that are left
 abbrev pub left : Words → List (List ℕ)

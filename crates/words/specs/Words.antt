@@ -23,9 +23,13 @@ unfoldable pub words : List ℕ → List (List ℕ)
 words [] = []
 words (b ∷ bs) = cond (white b) (words bs) (cond (begins_dark bs) (onto_first b (words bs)) ((b ∷ []) ∷ words bs))
 
+-- a line's break
+abbrev pub ends_line : ℕ → Bool
+ends_line b = b == 10
+
 -- a byte within a line, and not the break at its end
 abbrev pub inner : ℕ → Bool
-inner b = not (b == 10)
+inner b = not (ends_line b)
 
 -- the lines of a text, without their breaks; the last need not have one
 unfoldable pub lines : List ℕ → List (List ℕ)

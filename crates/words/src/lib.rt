@@ -4,4 +4,5 @@
 pub mod lines;
 pub mod number;
 pub mod reason;
+pub mod statement;
 pub mod words;

@@ -1,24 +1,13 @@
 // Numbers in a script.
-ghost use Rattle.std.specs.Prelude.{◌≡◌};
-ghost use Rattle.std.specs.Char.{digit_value};
+ghost use Rattle.std.specs.Prelude.{◌≡◌, ◌≤◌};
 ghost use Rattle.words.specs.Numerals.{numbered, number_of, key_of};
 
 use super::reason::Reason;
 
-// The value of a digit or a letter; 36 of any other byte.
-fn digit(byte: u8) -> u64
-    ensures { result ≡ digit_value byte }
-{
-    match byte {
-        b'0'..=b'9' => u64::from(byte - b'0'),
-        b'A'..=b'Z' => u64::from(byte - b'A') + 10,
-        b'a'..=b'z' => u64::from(byte - b'a') + 10,
-        _ => 36,
-    }
-}
-
 // The number that the word writes in the radix.
-fn numeral(word: &[u8], radix: u64) -> Option<u64>
+fn numeral(word: &[u8], radix: u32) -> Option<u64>
+    requires least { 2 ≤ radix }
+    requires most { radix ≤ 36 }
     ensures { result ≡ numbered radix word.now }
 {
     if word.is_empty() {
@@ -26,11 +15,10 @@ fn numeral(word: &[u8], radix: u64) -> Option<u64>
     }
     let mut n: u64 = 0;
     for byte in word {
-        let digit = digit(*byte);
-        if digit >= radix {
-            return None;
-        }
-        n = n.checked_mul(radix)?.checked_add(digit)?;
+        let digit = char::from(*byte).to_digit(radix)?;
+        n = n
+            .checked_mul(u64::from(radix))?
+            .checked_add(u64::from(digit))?;
     }
     Some(n)
 }

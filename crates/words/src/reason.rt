@@ -1,8 +1,10 @@
 // Why a line makes no sense.
-ghost use Rattle.std.specs.Prelude.{◌≡◌};
-ghost use Rattle.words.specs.Lines.{text_of};
+ghost use Rattle.std.specs.Prelude.{◌≡◌, Some};
+ghost use Rattle.words.specs.Lines.{text_of, bad_text};
 
-#[derive(Clone, Copy)]
+use std::fmt;
+
+#[derive(Clone, Copy, Debug, PartialEq, Eq)]
 pub enum Reason {
     UnknownWord,
     MissingWord,
@@ -33,9 +35,26 @@ impl Reason {
     }
 }
 
+impl fmt::Display for Reason {
+    ghost output = { λ reason. Some (text_of reason) };
+
+    fn fmt<W: fmt::Write>(&self, f: &mut fmt::Formatter<W>) -> fmt::Result {
+        f.write_str(self.text())
+    }
+}
+
 // A line that makes no sense, by its number in the script.
-#[derive(Clone, Copy)]
+#[derive(Clone, Copy, Debug, PartialEq, Eq)]
 pub struct BadLine {
     pub line: u64,
     pub reason: Reason,
+}
+
+impl fmt::Display for BadLine {
+    ghost output = { λ bad. Some (bad_text bad) };
+
+    fn fmt<W: fmt::Write>(&self, f: &mut fmt::Formatter<W>) -> fmt::Result {
+        let BadLine { line, reason } = *self;
+        write!(f, "line {line}: {reason}")
+    }
 }

@@ -1,8 +1,10 @@
 // The words of a line, taken one by one.
-ghost use Rattle.std.specs.Prelude.{◌≡◌, ◌-◌, ◌≤◌, [], ◌∷◌, length, take, MatchOption, OnOk};
+ghost use Rattle.std.specs.Prelude.{◌≡◌, ◌≤◌, [], ◌∷◌, length, MatchResult, OnOk};
+ghost use Rattle.std.specs.Iterator.{YieldsFirstRef, item_count};
 ghost use Rattle.std.specs.List.{prefix_len, suffix_len};
 ghost use Rattle.std.specs.Str.{bytes_eq};
 ghost use Rattle.words.specs.Words.{white, dark, words, trimmed};
+ghost use Rattle.words.specs.declared.reason.Reason.TheVariants.{MissingWord};
 ghost use Rattle.words.specs.Taken.{left, number_first, key_first, ended, rest_of};
 
 use super::number;
@@ -27,11 +29,7 @@ fn gap_len(line: &[u8]) -> usize
     ensures within { result ≤ length line.now }
     ensures value { result ≡ prefix_len white line.now }
 {
-    let mut n = 0;
-    while n < line.len() && is_white(line[n]) {
-        n += 1;
-    }
-    n
+    line.iter().take_while(|b| is_white(**b)).count()
 }
 
 // How many bytes at the front are not white.
@@ -39,22 +37,15 @@ fn word_len(line: &[u8]) -> usize
     ensures within { result ≤ length line.now }
     ensures value { result ≡ prefix_len dark line.now }
 {
-    let mut n = 0;
-    while n < line.len() && !is_white(line[n]) {
-        n += 1;
-    }
-    n
+    line.iter().take_while(|b| !is_white(**b)).count()
 }
 
-// The line without the white space at its end.
-fn trim_end(line: &[u8]) -> &[u8]
-    ensures { result.now ≡ take (length line.now - suffix_len white line.now) line.now }
+// How many bytes at the end are white.
+fn end_gap_len(line: &[u8]) -> usize
+    ensures within { result ≤ length line.now }
+    ensures value { result ≡ suffix_len white line.now }
 {
-    let mut n = line.len();
-    while n > 0 && is_white(line[n - 1]) {
-        n -= 1;
-    }
-    &line[0..n]
+    line.iter().rev().take_while(|b| is_white(**b)).count()
 }
 
 // The line without the white space at both ends.
@@ -62,7 +53,8 @@ pub fn trim(line: &[u8]) -> &[u8]
     ensures { result.now ≡ trimmed line.now }
 {
     let (_, line) = line.split_at(gap_len(line));
-    trim_end(line)
+    let (line, _) = line.split_at(line.len() - end_gap_len(line));
+    line
 }
 
 // What is left of a line.
@@ -78,14 +70,11 @@ impl<'a> Words<'a> {
         Words { rest: line }
     }
 
-    // The next word.
-    pub fn next(&mut self) -> Option<&'a [u8]>
-        ensures { MatchOption result (left self.old ≡ []) (λ w. left self.old ≡ w.now ∷ left self.new) }
+    // The next word, which has to be there.
+    pub fn word(&mut self) -> Result<&'a [u8], Reason>
+        ensures { MatchResult result (λ w. left self.old ≡ w.now ∷ left self.new) (λ why. (left self.old ≡ []) × (why ≡ MissingWord)) }
     {
-        let (_, line) = self.rest.split_at(gap_len(self.rest));
-        let (word, rest) = line.split_at(word_len(line));
-        self.rest = rest;
-        if word.is_empty() { None } else { Some(word) }
+        self.next().ok_or(Reason::MissingWord)
     }
 
     // The next word as a decimal number.
@@ -93,10 +82,7 @@ impl<'a> Words<'a> {
         ensures value { result ≡ number_first (left self.old) }
         ensures rest { OnOk result (left self.new ≡ rest_of (left self.old)) }
     {
-        match self.next() {
-            Some(word) => number::decimal(word),
-            None => Err(Reason::MissingWord),
-        }
+        number::decimal(self.word()?)
     }
 
     // The next word as a key.
@@ -104,10 +90,7 @@ impl<'a> Words<'a> {
         ensures value { result ≡ key_first (left self.old) }
         ensures rest { OnOk result (left self.new ≡ rest_of (left self.old)) }
     {
-        match self.next() {
-            Some(word) => number::key(word),
-            None => Err(Reason::MissingWord),
-        }
+        number::key(self.word()?)
     }
 
     // There are no more words.
@@ -118,5 +101,20 @@ impl<'a> Words<'a> {
             Some(_) => Err(Reason::ExtraWord),
             None => Ok(()),
         }
+    }
+}
+
+impl<'a> Iterator for Words<'a> {
+    type Item = &'a [u8];
+
+    ghost next_gives = { YieldsFirstRef left };
+
+    ghost remaining = { item_count left };
+
+    fn next(&mut self) -> Option<&'a [u8]> {
+        let (_, line) = self.rest.split_at(gap_len(self.rest));
+        let (word, rest) = line.split_at(word_len(line));
+        self.rest = rest;
+        if word.is_empty() { None } else { Some(word) }
     }
 }

@@ -13,26 +13,30 @@ returns-then-is_empty c =
     let e : length c.args.word.now ≡ 0 = grind (arith, nat_tests, c.if-is_empty.ensures) in
     sym (no_digit_none c.args.radix c.args.word.now e)
 
-pub returns-then-digit-radix : goal.returns-then-digit-radix
-returns-then-digit-radix c = sym (other_none c.args.radix c.args.word.now c.loop-byte.byte-index c.loop-byte-test.true (omega arith))
+pub returns-in_err-digit : goal.returns-in_err-digit
+returns-in_err-digit c =
+    let v : digit_value c.from.result ≡ digit_value (get_or c.args.word.now c.loop-byte.byte-index 0) = ap digit_value c.from.ensures in
+    c.from_residual.ensures ∙ sym (other_none c.args.radix c.args.word.now c.loop-byte.byte-index c.loop-byte-test.true (λ lt. c.in_err-digit.ensures.value (omega arith)))
 
 pub returns-in_err-checked_mul : goal.returns-in_err-checked_mul
 returns-in_err-checked_mul c =
-    let d : digit_value (get_or c.args.word.now c.loop-byte.byte-index 0) < c.args.radix = omega arith in
-    let e : c.loop-byte.n * c.args.radix ≡ digits_value c.args.radix (take c.loop-byte.byte-index c.args.word.now) * c.args.radix = ap (λ n. n * c.args.radix) c.loop-byte.invariant.0 in
-    c.from_residual.ensures ∙ sym (large_none c.args.radix c.args.word.now c.loop-byte.byte-index c.loop-byte-test.true d (omega (arith, c.in_err-checked_mul.ensures)))
+    let d : digit_value (get_or c.args.word.now c.loop-byte.byte-index 0) < c.args.radix = omega (arith, ap digit_value c.from.ensures, c.in_ok-digit.ensures.value.0) in
+    let e : c.loop-byte.n * c.from-in-loop-byte.result ≡ digits_value c.args.radix (take c.loop-byte.byte-index c.args.word.now) * c.args.radix = cc in
+    c.from_residual-in_err-checked_mul.ensures ∙ sym (large_none c.args.radix c.args.word.now c.loop-byte.byte-index (omega arith) c.loop-byte-test.true d (omega (arith, c.in_err-checked_mul.ensures)))
 
 pub returns-in_err-n : goal.returns-in_err-n
 returns-in_err-n c =
-    let d : digit_value (get_or c.args.word.now c.loop-byte.byte-index 0) < c.args.radix = omega arith in
-    let e : c.loop-byte.n * c.args.radix ≡ digits_value c.args.radix (take c.loop-byte.byte-index c.args.word.now) * c.args.radix = ap (λ n. n * c.args.radix) c.loop-byte.invariant.0 in
-    c.from_residual-in_err-n.ensures ∙ sym (large_none c.args.radix c.args.word.now c.loop-byte.byte-index c.loop-byte-test.true d (omega (arith, c.in_err-n.ensures, c.in_ok-checked_mul.ensures)))
+    let v : digit_value c.from.result ≡ digit_value (get_or c.args.word.now c.loop-byte.byte-index 0) = ap digit_value c.from.ensures in
+    let e : c.loop-byte.n * c.from-in-loop-byte.result ≡ digits_value c.args.radix (take c.loop-byte.byte-index c.args.word.now) * c.args.radix = cc in
+    let h = c.in_ok-digit.ensures.value in
+    c.from_residual-in_err-n.ensures ∙ sym (large_none c.args.radix c.args.word.now c.loop-byte.byte-index (omega arith) c.loop-byte-test.true (omega arith) (omega (arith, c.in_err-n.ensures, c.in_ok-checked_mul.ensures)))
 
 pub loop-byte-preserved : goal.loop-byte-preserved
 loop-byte-preserved c =
-    let d : digit_value (get_or c.args.word.now c.loop-byte.byte-index 0) < c.args.radix = omega arith in
-    let e : c.loop-byte.n * c.args.radix ≡ digits_value c.args.radix (take c.loop-byte.byte-index c.args.word.now) * c.args.radix = ap (λ n. n * c.args.radix) c.loop-byte.invariant.0 in
-    (omega (arith, c.in_ok-n.ensures, c.in_ok-checked_mul.ensures, digits_value_more c.args.radix c.args.word.now c.loop-byte.byte-index c.loop-byte-test.true), all_more c.args.radix c.args.word.now c.loop-byte.byte-index c.loop-byte-test.true c.loop-byte.invariant.1 d, omega (arith, c.in_ok-n.ensures))
+    let v : digit_value c.from.result ≡ digit_value (get_or c.args.word.now c.loop-byte.byte-index 0) = ap digit_value c.from.ensures in
+    let e : c.loop-byte.n * c.from-in-loop-byte.result ≡ digits_value c.args.radix (take c.loop-byte.byte-index c.args.word.now) * c.args.radix = cc in
+    let h = c.in_ok-digit.ensures.value in
+    (omega (arith, c.in_ok-n.ensures, c.in_ok-checked_mul.ensures, digits_value_more c.args.radix c.args.word.now c.loop-byte.byte-index c.loop-byte-test.true), all_more c.args.radix c.args.word.now c.loop-byte.byte-index c.loop-byte-test.true c.loop-byte.invariant.1 (omega arith), omega (arith, c.in_ok-n.ensures))
 
 pub returns : goal.returns
 returns c =
