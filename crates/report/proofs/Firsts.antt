@@ -1,24 +1,21 @@
 -- Looking for the first, element by element.
-use Rattle.std.proofs.Common.{◌≡◌, ℕ, ◌+◌, ◌<◌, ◌≤◌, true, false, List, length, get_or, drop, is_some, Some, None, Option, sym, refl, ap, ◌∙◌, arith}
-use Rattle.std.proofs.lemmas.List.{at_drop_more, at_drop_all}
+use Rattle.std.proofs.Common.{◌≡◌, ℕ, ◌<◌, zero, suc, List, [], ◌∷◌, length, Some, None, Option, MatchOption, sym, refl, ap, ◌∙◌, arith}
+use Rattle.std.specs.List.{AllWithin, HoldsAt}
 use Rattle.report.specs.Shown.{first_of, or_later}
 
-not_here : {Y : Type 0} (o later : Option Y) → is_some o ≡ false → or_later o later ≡ later
-not_here None later e = refl
-not_here (Some y) later e = absurd (let z : ◌≡◌ {A = ℕ} 0 1 = cc in omega arith)
+skipped : {X Y : Type 0} (f : X → Option Y) (x : X) (xs : List X) → f x ≡ None → first_of f (x ∷ xs) ≡ first_of f xs
+skipped f x xs none = ap (λ o. or_later o (first_of f xs)) none
 
-here : {Y : Type 0} (o later : Option Y) → is_some o ≡ true → or_later o later ≡ o
-here None later e = absurd (let z : ◌≡◌ {A = ℕ} 0 1 = cc in omega arith)
-here (Some y) later e = refl
+all_none : {X Y : Type 0} (f : X → Option Y) (xs : List X) → AllWithin (λ x. f x ≡ None) xs 0 (length xs) → first_of f xs ≡ None
+all_none f [] none = refl
+all_none f (x ∷ xs) none = skipped f x xs (none 0 x (omega arith) (omega arith)) ∙ all_none f xs (λ k d a b. none (suc k) d (omega arith) (omega arith))
 
-more : {X Y : Type 0} (f : X → Option Y) (xs : List X) (i : ℕ) (x : X) → i < length xs → x ≡ get_or xs i x → first_of f (drop i xs) ≡ or_later (f x) (first_of f (drop (i + 1) xs))
-more f xs i x lt e = at_drop_more (first_of f) xs i x lt ∙ ap (λ y. or_later (f y) (first_of f (drop (i + 1) xs))) (sym e)
+found_at : {X Y : Type 0} (f : X → Option Y) (xs : List X) (y : Y) (i : ℕ) → i < length xs → HoldsAt (λ x. f x ≡ Some y) xs i → AllWithin (λ x. f x ≡ None) xs 0 i → first_of f xs ≡ Some y
+found_at f [] y i lt some none = absurd (omega arith)
+found_at f (x ∷ xs) y zero lt some none = ap (λ o. or_later o (first_of f xs)) (some x)
+found_at f (x ∷ xs) y (suc i) lt some none = skipped f x xs (none 0 x (omega arith) (omega arith)) ∙ found_at f xs y i (omega arith) some (λ k d a b. none (suc k) d (omega arith) (omega arith))
 
-pub first_later : {X Y : Type 0} (f : X → Option Y) (xs : List X) (i : ℕ) (x : X) (o : Option Y) → i < length xs → x ≡ get_or xs i x → o ≡ f x → is_some o ≡ false → first_of f xs ≡ first_of f (drop i xs) → first_of f xs ≡ first_of f (drop (i + 1) xs)
-first_later f xs i x o lt e is none h = h ∙ (more f xs i x lt e ∙ not_here (f x) (first_of f (drop (i + 1) xs)) (sym (ap is_some is) ∙ none))
-
-pub first_here : {X Y : Type 0} (f : X → Option Y) (xs : List X) (i : ℕ) (x : X) (o : Option Y) → i < length xs → x ≡ get_or xs i x → o ≡ f x → is_some o ≡ true → first_of f xs ≡ first_of f (drop i xs) → o ≡ first_of f xs
-first_here f xs i x o lt e is some h = is ∙ sym (h ∙ (more f xs i x lt e ∙ here (f x) (first_of f (drop (i + 1) xs)) (sym (ap is_some is) ∙ some)))
-
-pub first_none : {X Y : Type 0} (f : X → Option Y) (xs : List X) (i : ℕ) → length xs ≤ i → first_of f xs ≡ first_of f (drop i xs) → None ≡ first_of f xs
-first_none f xs i le h = sym (h ∙ at_drop_all (first_of f) xs i le)
+-- what f gives of the first element of which it gives something, or nothing where it gives nothing of any
+pub first_found : {X Y : Type 0} (f : X → Option Y) (xs : List X) (r : Option Y) → MatchOption r (AllWithin (λ x. f x ≡ None) xs 0 (length xs)) (λ y. (i : ℕ) × (i < length xs) × HoldsAt (λ x. f x ≡ Some y) xs i × AllWithin (λ x. f x ≡ None) xs 0 i) → r ≡ first_of f xs
+first_found f xs None h = sym (all_none f xs h)
+first_found f xs (Some y) h = sym (found_at f xs y h.0 h.1 h.2 h.3)

@@ -1,3 +1,1 @@
-mod DigitSteps
-mod Adding
 mod Firsts

@@ -1,16 +1,8 @@
 -- Values as text.
-use Rattle.std.specs.Prelude.{◌≡◌, ℕ, List, [], ◌∷◌, ◌++◌, Some, None, vec_items, codes, decimal, Option, Result, OnOk}
+use Rattle.std.specs.Prelude.{ℕ, List, [], ◌∷◌, ◌++◌, Some, None, codes, decimal, Option}
 use Rattle.parts.specs.Causes.{number_of, words_of}
 use Rattle.parts.specs.declared.fault.Cause.{Cause}
 use Rattle.parts.specs.declared.fault.Fault.{Fault}
-use Rattle.report.specs.declared.out.Out.{Out}
-
-abbrev pub written : Out → List ℕ
-written out = vec_items out.bytes
-
--- after an Ok the text stands behind what was there
-abbrev pub Adds : {E : Type 0} → Result (Unit {0}) E → Out → List ℕ → Out → Type 0
-Adds r before text after = OnOk r (written after ≡ written before ++ text)
 
 abbrev pub shown_cause : Cause → List ℕ
 shown_cause c = decimal (number_of c) ++ (codes " (" ++ (words_of c ++ codes ")"))

@@ -1,36 +1,42 @@
 // What is printed of a card section.
-ghost use Rattle.std.specs.Prelude.{◌≡◌, count_by};
-ghost use Rattle.report.specs.Shown.{Adds};
+ghost use Rattle.std.specs.Prelude.{◌≡◌, ◌++◌, Some, count_by, OnOk};
 ghost use Rattle.report.specs.Cards.{shown_answer, fault_of, is_passed, shown_card, shown_done, shown_summary};
 
+use super::fault::{Declined, FaultOrNone, Found};
 use super::out::Out;
-use super::shown::{Shown, fault_or_none, first_fault};
+use super::shown::{Shown, first_fault};
 use memory_laws::call::Answer;
 use parts::fault::Fault;
 use std::alloc::AllocError;
+use std::fmt;
+
+// An answer as text.
+#[derive(Clone, Copy)]
+pub struct Text(Answer);
+
+impl fmt::Display for Text {
+    ghost output = { λ text. Some (shown_answer text.0) };
+
+    fn fmt<W: fmt::Write>(&self, f: &mut fmt::Formatter<W>) -> fmt::Result {
+        match self.0 {
+            Answer::Written => write!(f, "written"),
+            Answer::Value(value) => write!(f, "value {value}"),
+            Answer::Passed => write!(f, "passed"),
+            Answer::Declined(fault) => write!(f, "declined {}", Declined(fault)),
+            Answer::Failed(fault) => write!(f, "fault {}", Found(fault)),
+        }
+    }
+}
 
 impl Shown for Answer {
+    type Text = Text;
+
     ghost shown = { shown_answer };
 
     ghost reported = { fault_of };
 
-    fn show(&self, out: &mut Out) -> Result<(), AllocError> {
-        match *self {
-            Answer::Written => out.text("written"),
-            Answer::Value(value) => {
-                out.text("value ")?;
-                out.decimal(value)
-            }
-            Answer::Passed => out.text("passed"),
-            Answer::Declined(fault) => {
-                out.text("declined ")?;
-                out.decline(fault)
-            }
-            Answer::Failed(fault) => {
-                out.text("fault ")?;
-                out.fault(fault)
-            }
-        }
+    fn display(&self) -> Text {
+        Text(*self)
     }
 
     fn fault(&self) -> Option<Fault> {
@@ -41,54 +47,54 @@ impl Shown for Answer {
     }
 }
 
-fn is_passed(answer: Answer) -> bool
-    ensures { result ≡ is_passed answer }
-{
-    match answer {
-        Answer::Passed => true,
-        _ => false,
-    }
-}
-
 // How many sweeps passed.
 fn passed(answers: &[Answer]) -> usize
     ensures { result ≡ count_by is_passed answers.now }
 {
-    let mut n = 0;
-    for answer in answers {
-        if is_passed(*answer) {
-            n += 1;
-        }
+    answers
+        .iter()
+        .filter(|answer| matches!(**answer, Answer::Passed))
+        .count()
+}
+
+// A card's size in cells, and the width of a cell in bits.
+#[derive(Clone, Copy)]
+pub struct Shape {
+    pub size: u64,
+    pub width: u64,
+}
+
+impl fmt::Display for Shape {
+    ghost output = { λ card. Some (shown_card card.size card.width) };
+
+    fn fmt<W: fmt::Write>(&self, f: &mut fmt::Formatter<W>) -> fmt::Result {
+        let size = self.size;
+        let width = self.width;
+        write!(f, "card {size} {width}")
     }
-    n
 }
 
-fn show_card(out: &mut Out, size: u64, width: u64) -> Result<(), AllocError>
-    ensures { Adds result out.old (shown_card size width) out.new }
-{
-    out.text("card ")?;
-    out.decimal(size)?;
-    out.text(" ")?;
-    out.decimal(width)
-}
+// What was done.
+#[derive(Clone, Copy)]
+struct Done<'a>(&'a [Answer]);
 
-fn show_done(out: &mut Out, answers: &[Answer]) -> Result<(), AllocError>
-    ensures { Adds result out.old (shown_done answers.now) out.new }
-{
-    out.text("calls ")?;
-    out.decimal(answers.len() as u64)?;
-    out.text(", sweeps passed ")?;
-    out.decimal(passed(answers) as u64)?;
-    out.text(", first fault ")?;
-    fault_or_none(out, first_fault(answers))
+impl fmt::Display for Done<'_> {
+    ghost output = { λ done. Some (shown_done done.0.now) };
+
+    fn fmt<W: fmt::Write>(&self, f: &mut fmt::Formatter<W>) -> fmt::Result {
+        let calls = self.0.len();
+        let passed = passed(self.0);
+        let first = FaultOrNone(first_fault(self.0));
+        write!(
+            f,
+            "calls {calls}, sweeps passed {passed}, first fault {first}"
+        )
+    }
 }
 
 // The line at the end of a section: what was done.
-pub fn summary(out: &mut Out, size: u64, width: u64, answers: &[Answer]) -> Result<(), AllocError>
-    ensures { Adds result out.old (shown_summary size width answers.now) out.new }
+pub fn summary(out: &mut Out, card: Shape, answers: &[Answer]) -> Result<(), AllocError>
+    ensures { OnOk result (out.new ≡ out.old ++ shown_summary card.size card.width answers.now) }
 {
-    show_card(out, size, width)?;
-    out.text(": ")?;
-    show_done(out, answers)?;
-    out.text("\n")
+    writeln!(out, "{card}: {}", Done(answers))
 }

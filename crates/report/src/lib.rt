@@ -2,5 +2,6 @@
 #![tactic(auto)]
 
 pub mod card;
+pub mod fault;
 pub mod out;
 pub mod shown;

@@ -1,35 +1,34 @@
-// Values as text, at the end of a buffer.
-ghost use Rattle.std.specs.Prelude.{◌≡◌, ◌≤◌, [], drop, decimal as figures};
-ghost use Rattle.report.specs.Shown.{written, Adds, shown_cause, shown_fault, shown_decline};
+// Text at the end of a buffer of bytes.
+ghost use Rattle.std.specs.Prelude.{◌≡◌, ℕ, List, [], ◌++◌, OnOk};
+ghost use Rattle.std.specs.Fmt.{AppendsText};
 
-use parts::fault::{Cause, Fault};
 use std::alloc::{AllocError, Global};
+use std::fmt;
+use std::marker::Model;
 
 #[derive(Drop)]
 pub struct Out {
     bytes: Vec<u8>,
 }
 
-// Writes the number in decimal at the end of the buffer, and tells where it begins.
-fn digits(n: u64, buffer: &mut [u8; 20]) -> usize
-    ensures within { result ≤ 20 }
-    ensures value { drop result buffer.new ≡ figures n }
-{
-    let mut rest = n;
-    let mut at = 20;
-    while rest >= 10 {
-        at -= 1;
-        buffer[at] = b'0' + (rest % 10) as u8;
-        rest /= 10;
+// A clause sees the bytes written so far.
+impl Model for Out {
+    ghost Value = { List ℕ };
+
+    ghost view = { λ out. out.bytes.items };
+}
+
+impl fmt::Write for Out {
+    ghost write_str_gives = { λ before text after. after ≡ before ++ text };
+
+    fn write_str(&mut self, text: &str) -> fmt::Result {
+        Ok(self.raw(text.as_bytes())?)
     }
-    at -= 1;
-    buffer[at] = b'0' + rest as u8;
-    at
 }
 
 impl Out {
     pub fn new(heap: Global) -> Out
-        ensures { written result ≡ [] }
+        ensures { result ≡ [] }
     {
         Out {
             bytes: Vec::new(heap),
@@ -37,62 +36,27 @@ impl Out {
     }
 
     pub fn as_slice(&self) -> &[u8]
-        ensures { result.now ≡ written self.now }
+        ensures { result.now ≡ self.now }
     {
         self.bytes.as_slice()
     }
 
     pub fn clear(&mut self)
-        ensures { written self.new ≡ [] }
+        ensures { self.new ≡ [] }
     {
         self.bytes.clear();
     }
 
     pub fn raw(&mut self, bytes: &[u8]) -> Result<(), AllocError>
-        ensures { Adds result self.old bytes.now self.new }
+        ensures { OnOk result (self.new ≡ self.old ++ bytes.now) }
     {
         self.bytes.extend_from_slice(bytes)
     }
 
-    pub fn text(&mut self, text: &str) -> Result<(), AllocError>
-        ensures { Adds result self.old text.now self.new }
+    // What `write!` calls. No value that is printed here fails by itself, so an error is the buffer's.
+    pub fn write_fmt<D: fmt::Display + Drop>(&mut self, value: D) -> Result<(), AllocError>
+        ensures { OnOk result (AppendsText self.old self.new (D.output value)) }
     {
-        self.bytes.extend_from_slice(text.as_bytes())
-    }
-
-    pub fn decimal(&mut self, n: u64) -> Result<(), AllocError>
-        ensures { Adds result self.old (figures n) self.new }
-    {
-        let mut buffer = [b'0'; 20];
-        let at = digits(n, &mut buffer);
-        self.bytes.extend_from_slice(&buffer[at..])
-    }
-
-    // The cause's number, and its name in brackets.
-    pub fn cause(&mut self, cause: Cause) -> Result<(), AllocError>
-        ensures { Adds result self.old (shown_cause cause) self.new }
-    {
-        self.decimal(u64::from(cause.number()))?;
-        self.text(" (")?;
-        self.text(cause.name())?;
-        self.text(")")
-    }
-
-    pub fn decline(&mut self, fault: Fault) -> Result<(), AllocError>
-        ensures { Adds result self.old (shown_decline fault) self.new }
-    {
-        self.cause(fault.cause)?;
-        self.text(" at ")?;
-        self.decimal(fault.place)
-    }
-
-    pub fn fault(&mut self, fault: Fault) -> Result<(), AllocError>
-        ensures { Adds result self.old (shown_fault fault) self.new }
-    {
-        self.cause(fault.cause)?;
-        self.text(" height ")?;
-        self.decimal(u64::from(fault.height))?;
-        self.text(" at ")?;
-        self.decimal(fault.place)
+        fmt::Write::write(self, value).map_err(|_| AllocError)
     }
 }

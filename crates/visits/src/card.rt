@@ -5,7 +5,7 @@ ghost use Rattle.visits.specs.Cards.{answers_to};
 use super::print::{flush, lines};
 use memory_laws::call::Answer;
 use memory_run::perform;
-use report::card::summary;
+use report::card::{Shape, summary};
 use report::out::Out;
 use script::card::{Card, Rule, Tally};
 use std::alloc::{AllocError, Global};
@@ -56,7 +56,11 @@ fn answers(heap: Global, card: &Card<'_>) -> Result<Vec<Answer>, AllocError>
 pub fn perform_and_print(rt: &HostRuntime, out: &mut Out, card: &Card<'_>) -> io::Result<bool> {
     let answers = answers(rt.alloc(), card)?;
     lines(rt, out, card.calls.texts(), answers.as_slice())?;
-    summary(out, card.size, card.width, answers.as_slice())?;
+    let shape = Shape {
+        size: card.size,
+        width: card.width,
+    };
+    summary(out, shape, answers.as_slice())?;
     flush(rt, out)?;
     Ok(true)
 }
