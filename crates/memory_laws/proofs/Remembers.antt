@@ -1,5 +1,6 @@
 -- What the calls of a checked memory do to its history.
 use Rattle.std.proofs.Common.{◌≡◌, ℕ, zero, suc, ◌+◌, ◌/◌, ◌^◌, ◌<◌, ◌≤◌, Bool, true, false, cond, nat_eq, nat_lt, nat_le, ◌⊎◌, List, [], ◌∷◌, ◌++◌, length, None, Ok, Err, Option, Result, unwrap_or, sym, refl, ap, ◌∙◌, subst, inl, inr, append_assoc, append-nil, mod-eq_of_lt, arith, ltb-true, leb-true}
+use Rattle.std.proofs.lemmas.List.{length_push}
 use native.Mathlib.Nat.{div-eq_of_lt}
 use lib.Arith.{digits_div, digits_mod}
 use borrow.Author.Tests.{eqb-false}
@@ -30,10 +31,6 @@ pub record Fair (stamp : ℕ → ℕ) (n c : ℕ) (t : Touch) : Type 0 where
   pub next : stamp t.put ≡ suc c
 
 -- lists with one touch or one epoch more
-length_push : (xs : List Touch) (t : Touch) → length (xs ++ t ∷ []) ≡ suc (length xs)
-length_push [] t = refl
-length_push (x ∷ xs) t = ap suc (length_push xs t)
-
 began_push : (w : List ℕ) (es : List Epoch) (e : Epoch) → began w (es ++ e ∷ []) ≡ writes e.sweep
 began_push w [] e = refl
 began_push w (x ∷ es) e = began_push (writes x.sweep) es e

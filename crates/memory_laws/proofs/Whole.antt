@@ -1,7 +1,7 @@
 -- What is promised of every list of calls on a memory just made, over any store.
 use Rattle.std.proofs.Common.{◌≡◌, ℕ, zero, suc, ◌+◌, ◌^◌, ◌<◌, ◌≤◌, ◌≢◌, ◌⊎◌, List, [], ◌∷◌, ◌++◌, length, slice_index_or, take, drop, replicate, Some, None, Ok, Err, Result, sym, refl, ap, ◌∙◌, subst, inl, inr, append-nil, zero-add, arith}
 use native.Mathlib.Nat.{zero-mod}
-use Rattle.std.proofs.lemmas.List.{get_or-replicate, length-replicate}
+use Rattle.std.proofs.lemmas.List.{get_or-replicate, length-replicate, take_all}
 use Rattle.parts.specs.declared.fault.Fault.{Fault}
 use Rattle.parts.specs.Outcomes.{Outcome, up_to, settled}
 use Rattle.parts.specs.Meaning.{Meaning}
@@ -169,14 +169,10 @@ module _ (m : Meaning) {T V : Type 0} (l : T → Tallying V) (laws : (t : T) →
                 let h₂ = close h₁ k.touched in
                 let here : misread (events (at (suc i))) ≡ stale zeros (touches (take (length h₂.past) h₂.past)) =
                 ap (λ (x : W). misread (events x)) (after_one (performed (watched m) l) calls s i Sweep lt) ∙ ap misread k.held.log_is ∙ misread_flat n h₂
-                ∙ ap (stale zeros) (all_epochs h₂ refl (take_whole h₂.past)) in
+                ∙ ap (stale zeros) (all_epochs h₂ refl (take_all (length h₂.past) h₂.past (omega arith))) in
                 absurd (never_one h₂ s₁ k.held (length h₂.past) (sym here ∙ one))
             | inr q ↦ (q.0, answer_at (performed (watched m) l) calls s i Sweep Passed lt ∙ q.1)
           ]
-        where
-          take_whole : {A : Type 0} (xs : List A) → take (length xs) xs ≡ xs
-          take_whole [] = refl
-          take_whole (x ∷ xs) = ap (λ k. x ∷ k) (take_whole xs)
 
       ending : (i : ℕ) → i < length calls → (before since : List Event) → events (at (suc i)) ≡ before ++ sweep_ends ∷ since → misread before ≡ 1 →
           accepted (slice_index_or (answers (performed (watched m) l) calls s) i Passed) → Reached m l laws n w t narrow fresh (ideal_at i) (at i) → ⊥
