@@ -59,9 +59,9 @@ fn passed(answers: &[Answer]) -> usize
 
 // A card's size in cells, and the width of a cell in bits.
 #[derive(Clone, Copy)]
-pub struct Shape {
-    pub size: u64,
-    pub width: u64,
+struct Shape {
+    size: u64,
+    width: u64,
 }
 
 impl fmt::Display for Shape {
@@ -93,8 +93,8 @@ impl fmt::Display for Done<'_> {
 }
 
 // The line at the end of a section: what was done.
-pub fn summary(out: &mut Out, card: Shape, answers: &[Answer]) -> Result<(), AllocError>
-    ensures { OnOk result (out.new ≡ out.old ++ shown_summary card.size card.width answers.now) }
+pub fn summary(out: &mut Out, size: u64, width: u64, answers: &[Answer]) -> Result<(), AllocError>
+    ensures { OnOk result (out.new ≡ out.old ++ shown_summary size width answers.now) }
 {
-    writeln!(out, "{card}: {}", Done(answers))
+    writeln!(out, "{}: {}", Shape { size, width }, Done(answers))
 }

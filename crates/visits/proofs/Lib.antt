@@ -1,1 +1,1 @@
-mod CardAnswers
+mod Answered

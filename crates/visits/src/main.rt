@@ -1,113 +1,80 @@
 // The program: reads a script, performs its sections and prints what was done.
 #![tactic(auto)]
 
-use report::out::Out;
+use failure::Failure;
+use print::Printer;
 use script::section::{Section, parse};
-use std::io::{Read, Write};
+use std::io::Read;
 use std::process::ExitCode;
-use std::{env, fs, io};
-use words::reason::BadLine;
+use std::{env, fs};
 
+mod altered;
 mod card;
+mod failure;
 mod help;
 mod print;
 
-// Says on standard error what went wrong; the answer is that the program failed.
-fn complain(rt: &HostRuntime, what: &str) -> io::Result<bool> {
-    eprintln!(rt; "visits: {what}")?;
-    Ok(false)
-}
-
-fn misused(rt: &HostRuntime, what: &str, argument: &str) -> io::Result<bool> {
-    eprintln!(rt; "visits: {what} {argument}; usage: visits [--help] [SCRIPT]")?;
-    Ok(false)
-}
-
-fn complain_of_line(rt: &HostRuntime, bad: BadLine) -> io::Result<bool> {
-    let line = bad.line;
-    let reason = bad.reason.text();
-    eprintln!(rt; "visits: line {line}: {reason}")?;
-    Ok(false)
-}
-
-// Performs a section and prints it; whether it could be.
-fn perform_section(rt: &HostRuntime, out: &mut Out, section: &Section<'_>) -> io::Result<bool> {
-    match section {
-        Section::Card(card) => card::perform_and_print(rt, out, card),
-        Section::Bad(bad) => complain_of_line(rt, *bad),
-    }
-}
-
-// Performs the sections in turn; whether all could be.
-fn perform_script(rt: &HostRuntime, script: &[u8]) -> io::Result<bool> {
+// Performs the sections in turn. In place of one that makes no sense, its bad line is named on standard error.
+fn perform_script(rt: &HostRuntime, script: &[u8]) -> Result<ExitCode, Failure> {
     let sections = parse(rt.alloc(), script)?;
     if sections.is_empty() {
-        return complain(rt, "the script has no section");
+        return Err(Failure::NoSection);
     }
-    let mut out = Out::new(rt.alloc());
-    let mut good = true;
-    for section in sections.iter() {
-        good = perform_section(rt, &mut out, section)? && good;
+    let mut printer = Printer::new(rt);
+    let mut status = ExitCode::SUCCESS;
+    for section in &sections {
+        match section {
+            Ok(Section::Card(plan)) => card::perform_and_print(&mut printer, plan)?,
+            Err(bad) => {
+                eprintln!(rt; "visits: {bad}")?;
+                status = ExitCode::FAILURE;
+            }
+        }
     }
-    Ok(good)
+    Ok(status)
 }
 
-fn perform_input(rt: &HostRuntime) -> io::Result<bool> {
+fn perform_input(rt: &HostRuntime) -> Result<ExitCode, Failure> {
     let mut script = Vec::new(rt.alloc());
-    match rt.stdin().read_to_end(&mut script) {
-        Ok(_) => perform_script(rt, script.as_slice()),
-        Err(error) => {
-            eprintln!(rt; "visits: cannot read standard input: {error}")?;
-            Ok(false)
+    rt.stdin()
+        .read_to_end(&mut script)
+        .map_err(Failure::NoInput)?;
+    perform_script(rt, script.as_slice())
+}
+
+fn perform_file(rt: &HostRuntime, path: String) -> Result<ExitCode, Failure> {
+    let script = fs::read(rt, path.as_str()).map_err(|error| Failure::NoFile(path, error))?;
+    perform_script(rt, script.as_slice())
+}
+
+fn perform_argument(rt: &HostRuntime, argument: String) -> Result<ExitCode, Failure> {
+    match argument.as_str() {
+        "-h" | "--help" => {
+            rt.print(help::HELP)?;
+            Ok(ExitCode::SUCCESS)
         }
+        "-" => perform_input(rt),
+        option if option.starts_with('-') => Err(Failure::UnknownOption(argument)),
+        _ => perform_file(rt, argument),
     }
 }
 
-fn perform_file(rt: &HostRuntime, path: &str) -> io::Result<bool> {
-    match fs::read(rt, path) {
-        Ok(script) => perform_script(rt, script.as_slice()),
-        Err(error) => {
-            eprintln!(rt; "visits: cannot read {path}: {error}")?;
-            Ok(false)
-        }
-    }
-}
-
-fn perform_argument(rt: &HostRuntime, argument: &str) -> io::Result<bool> {
-    if argument == "-h" || argument == "--help" {
-        rt.print(help::HELP)?;
-        return Ok(true);
-    }
-    if argument == "-" {
-        return perform_input(rt);
-    }
-    if argument.starts_with('-') {
-        return misused(rt, "unknown option", argument);
-    }
-    perform_file(rt, argument)
-}
-
-// Does what the arguments ask; whether all went well.
-fn run(rt: &HostRuntime) -> io::Result<bool> {
-    let mut arguments = env::args(rt)?;
-    let _ = arguments.next();
+// Does what the arguments ask.
+fn run(rt: &HostRuntime) -> Result<ExitCode, Failure> {
+    let mut arguments = env::args(rt)?.skip(1);
     let first = arguments.next();
     if let Some(second) = arguments.next() {
-        return misused(rt, "unexpected argument", second.as_str());
+        return Err(Failure::UnexpectedArgument(second));
     }
     match first {
-        Some(argument) => perform_argument(rt, argument.as_str()),
+        Some(argument) => perform_argument(rt, argument),
         None => perform_input(rt),
     }
 }
 
 fn main(rt: HostRuntime) -> ExitCode {
-    match run(&rt) {
-        Ok(true) => ExitCode::SUCCESS,
-        Ok(false) => ExitCode::FAILURE,
-        Err(error) => {
-            let _ = eprintln!(rt; "visits: {error}");
-            ExitCode::FAILURE
-        }
-    }
+    run(&rt).unwrap_or_else(|failure| {
+        let _ = eprintln!(rt; "visits: {failure}");
+        ExitCode::FAILURE
+    })
 }

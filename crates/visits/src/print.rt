@@ -1,33 +1,47 @@
 // Printing by the block.
 use report::out::Out;
 use report::shown::{Shown, line};
+use std::alloc::Global;
 use std::io;
 use std::io::Write;
 
 // How many bytes are gathered before they are written.
 const BLOCK: usize = 60_000;
 
-// Writes what was gathered.
-pub fn flush(rt: &HostRuntime, out: &mut Out) -> io::Result<()> {
-    rt.stdout().write_all(out.as_slice())?;
-    out.clear();
-    Ok(())
+// Standard output, and what is gathered for it.
+#[derive(Drop)]
+pub struct Printer<'a> {
+    rt: &'a HostRuntime,
+    pub out: Out,
 }
 
-// Prints the line of each call, numbered from 1.
-pub fn lines<A: Shown>(
-    rt: &HostRuntime,
-    out: &mut Out,
-    texts: &[&[u8]],
-    answers: &[A],
-) -> io::Result<()> {
-    let mut number: u64 = 0;
-    for (text, answer) in texts.iter().zip(answers.iter()) {
-        number = number.saturating_add(1);
-        line(out, number, text, answer)?;
-        if out.as_slice().len() >= BLOCK {
-            flush(rt, out)?;
+impl<'a> Printer<'a> {
+    pub fn new(rt: &'a HostRuntime) -> Printer<'a> {
+        Printer {
+            rt,
+            out: Out::new(rt.alloc()),
         }
     }
-    Ok(())
+
+    pub fn alloc(&self) -> Global {
+        self.rt.alloc()
+    }
+
+    // Writes what was gathered.
+    pub fn flush(&mut self) -> io::Result<()> {
+        self.rt.stdout().write_all(self.out.as_slice())?;
+        self.out.clear();
+        Ok(())
+    }
+
+    // Prints the line of each call, numbered from 1.
+    pub fn lines<A: Shown>(&mut self, texts: &[&[u8]], answers: &[A]) -> io::Result<()> {
+        for (number, (text, answer)) in (1u64..).zip(texts.iter().zip(answers)) {
+            line(&mut self.out, number, text, answer)?;
+            if self.out.as_slice().len() >= BLOCK {
+                self.flush()?;
+            }
+        }
+        Ok(())
+    }
 }

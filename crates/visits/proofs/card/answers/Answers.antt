@@ -1,22 +1,25 @@
-use Rattle.std.proofs.Common.{◌≡◌, length, replicate, vec_items, ap, ◌∙◌}
-use Rattle.parts.specs.Meaning.{fit}
-use Rattle.store.specs.declared.array.Array.{Array}
-use Rattle.visits.specs.Cards.{answers_to}
-use Rattle.visits.proofs.CardAnswers.{zeros, state_is, sum_answers, xor_answers, answered}
+use Rattle.std.proofs.Common.{◌≡◌, List, IfOk, vec_items, ap, subst}
+use Rattle.memory_laws.specs.Mix.{sum_tally, xor_tally}
+use Rattle.memory_laws.specs.declared.call.Answer.{Answer}
+use Rattle.memory_laws.specs.declared.call.Call.{Call}
+use Rattle.plan.specs.declared.plan.Plan.{Plan}
+use Rattle.script.specs.declared.card.Card.{Card}
+use Rattle.script.specs.declared.card.Rule.TheVariants.{Sum, Xor}
+use Rattle.script.specs.declared.card.Tally.{Tally}
+use Rattle.tallies.specs.declared.Sum as sums
+use Rattle.tallies.specs.declared.Xor as xors
+use Rattle.visits.specs.Cards.{tally_of, answers_under, answers_by, answers_to}
+use Rattle.visits.proofs.Answered.{usual}
 use Rattle.visits.proofs.card.answers.Goals as goal
 
-pub returns-in-Sum : goal.returns-in-Sum
-returns-in-Sum c =
-    let before : c.as_mut_slice.result.now ≡ replicate c.handed_size.result 0 = c.as_mut_slice.ensures.value ∙ c.in_ok-words.ensures in
-    let words : c.new-array.result.words.now ≡ replicate c.handed_size.result 0 = zeros c.handed_size.result (fit (length c.as_mut_slice.result.now) c.handed_width.result) c.as_mut_slice.result.now c.new-array.result.words.now before c.new-array.ensures.holds in
-    let same : c.new-store.result.store ≡ c.new-array.result = c.new-store.ensures.0 in
-    let state = state_is c.args.card.now c.new-store.result.store.words.now c.new-store.result.store.width c.new-store.result.coming.now c.new-store.result.count (ap (λ (a : Array). a.words.now) same ∙ (words ∙ ap (λ k. replicate k 0) c.handed_size.ensures)) (ap (λ (a : Array). a.width) same ∙ (c.new-array.ensures.wide ∙ c.handed_width.ensures)) (c.new-store.ensures.1.0 ∙ c.as_slice.ensures.value) c.new-store.ensures.1.1 in
-    answered c.perform.result.1 vec_items _ (answers_to c.args.card.now) _ _ (sum_answers c.args.card.now c.unwrap_or-tally.result _ c.as_slice-calls.result.now c.in-Sum.is c.unwrap_or-tally.ensures state c.as_slice-calls.ensures) c.perform.ensures.gives
+under_sum : (plan : Plan Card Tally Call) (t : Tally) → t.rule ≡ Sum → t ≡ tally_of plan.kind → answers_under (λ (u : sums.Sum). sum_tally u.key) (record { key = t.key }) plan ≡ answers_to plan
+under_sum plan t e is = rw e at (ap (λ u. answers_by u plan) is)
 
-pub returns : goal.returns
-returns c =
-    let before : c.as_mut_slice.result.now ≡ replicate c.handed_size.result 0 = c.as_mut_slice.ensures.value ∙ c.in_ok-words.ensures in
-    let words : c.new-array.result.words.now ≡ replicate c.handed_size.result 0 = zeros c.handed_size.result (fit (length c.as_mut_slice.result.now) c.handed_width.result) c.as_mut_slice.result.now c.new-array.result.words.now before c.new-array.ensures.holds in
-    let same : c.new-store.result.store ≡ c.new-array.result = c.new-store.ensures.0 in
-    let state = state_is c.args.card.now c.new-store.result.store.words.now c.new-store.result.store.width c.new-store.result.coming.now c.new-store.result.count (ap (λ (a : Array). a.words.now) same ∙ (words ∙ ap (λ k. replicate k 0) c.handed_size.ensures)) (ap (λ (a : Array). a.width) same ∙ (c.new-array.ensures.wide ∙ c.handed_width.ensures)) (c.new-store.ensures.1.0 ∙ c.as_slice.ensures.value) c.new-store.ensures.1.1 in
-    answered c.perform-in-Xor.result.1 vec_items _ (answers_to c.args.card.now) _ _ (xor_answers c.args.card.now c.unwrap_or-tally.result _ c.as_slice-calls.result.now c.in-Xor.is c.unwrap_or-tally.ensures state c.as_slice-calls.ensures) c.perform-in-Xor.ensures.gives
+under_xor : (plan : Plan Card Tally Call) (t : Tally) → t.rule ≡ Xor → t ≡ tally_of plan.kind → answers_under (λ (u : xors.Xor). xor_tally u.key) (record { key = t.key }) plan ≡ answers_to plan
+under_xor plan t e is = rw e at (ap (λ u. answers_by u plan) is)
+
+pub returns-in-Sum : goal.returns-in-Sum
+returns-in-Sum c = subst (λ (all : List Answer). IfOk c.answers_under.result (λ v. vec_items v ≡ all)) (under_sum c.args.plan.now c.unwrap_or_default-tally.result c.in-Sum.is (usual _ _ c.unwrap_or_default-tally.ensures)) c.answers_under.ensures
+
+pub returns-in-Xor : goal.returns-in-Xor
+returns-in-Xor c = subst (λ (all : List Answer). IfOk c.answers_under-in-Xor.result (λ v. vec_items v ≡ all)) (under_xor c.args.plan.now c.unwrap_or_default-tally.result c.in-Xor.is (usual _ _ c.unwrap_or_default-tally.ensures)) c.answers_under-in-Xor.ensures
