@@ -2,6 +2,7 @@
 use Rattle.std.specs.Prelude.{◌≡◌, ℕ, Result, Ok, Err}
 use Rattle.parts.specs.declared.fault.QueueFault.{QueueFault}
 use Rattle.parts.specs.Outcomes.{Outcome}
+use Rattle.heap.specs.View.{Does}
 use Rattle.heap.specs.declared.walk.Walk.{Walk}
 
 -- the same store, as it was lent, the same capacity and the same count
@@ -12,11 +13,10 @@ pub record Same {S O : Type 0} (s z : Walk S O) : Type 0 where
 
 -- a call on the walk s that answers r and leaves z has the outcome o on its store
 pub record Leaves {A S O X : Type 0} (f : S → X) (s z : Walk S O) (r : Result A QueueFault) (o : X → Outcome QueueFault A X) : Type 0 where
-  pub answer : r ≡ (o (f s.store.now)).0
-  pub leaves : f z.store.now ≡ (o (f s.store.now)).1
+  pub does : Does f s.store.now z.store.now r o
   pub same : Same s z
 
--- one whose outcome is the place that is free then
+-- a call that answers nothing has the place that is free after it as its outcome
 abbrev pub to_hole : ℕ → Result (Unit {0}) QueueFault → Result ℕ QueueFault
 to_hole e r = elim r [ Ok x ↦ Ok e | Err f ↦ Err f ]
 

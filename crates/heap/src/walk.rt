@@ -46,7 +46,9 @@ impl<S: Store, O: Order> Walk<'_, '_, S, O> {
         2 * self.hole + 1
     }
 
-    // Writes an entry at the free place: its ticket, its key, and where the ticket is.
+    // Writes an entry at the free place: its ticket, its key, and where the ticket is. (This and the next are in each step of a way:
+    // called and not put in place there, puts and removes over an array took a quarter longer.)
+    #[inline]
     fn place(&mut self, entry: Entry) -> Result<(), QueueFault>
         ensures does { Leaves S.Store.state self.old self.new result (placing S.Store.meaning self.old.hole entry.ticket entry.key) }
     {
@@ -58,6 +60,7 @@ impl<S: Store, O: Order> Walk<'_, '_, S, O> {
     }
 
     // Moves an entry, whose key is known, to the free place; its own is free then.
+    #[inline]
     fn move_entry(&mut self, from: u64, key: u64) -> Result<(), QueueFault>
         requires { from < self.old.count }
         ensures does { Leaves S.Store.state self.old self.new result (moving S.Store.meaning self.old.capacity from self.old.hole key) }
