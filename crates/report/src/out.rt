@@ -6,6 +6,7 @@ use std::alloc::{AllocError, Global};
 use std::fmt;
 use std::marker::Model;
 
+// What is printed, until it is written: bytes, since a call of a script need not be text.
 #[derive(Drop)]
 pub struct Out {
     bytes: Vec<u8>,
