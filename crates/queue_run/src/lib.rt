@@ -64,8 +64,9 @@ pub fn perform<Q: Queue>(
 {
     // memory_run takes these steps too: a function for both would ask for a trait with a method and a ghost member for the making and
     // for the taking apart, which is more than the steps.
-    let Ok(mut all) = Vec::with_capacity(heap, calls.len()) else {
-        return (queue, Err(AllocError));
+    let mut all = match Vec::with_capacity(heap, calls.len()) {
+        Ok(all) => all,
+        Err(error) => return (queue, Err(error)),
     };
     let mut answering = Answering {
         queue: CheckedQueue::new(queue, capacity),

@@ -21,5 +21,5 @@ returns g c =
       );
     }
 
-pub returns-in_default-clause-keeps : goal.returns-in_default-clause-keeps
-returns-in_default-clause-keeps g c = promised g.S.Store.meaning g.S.Store.keeps g.T.Tally.tallying g.T.Tally.laws _ c.args.tally c.args.calls.now
+pub returns-in-Err-clause-keeps : goal.returns-in-Err-clause-keeps
+returns-in-Err-clause-keeps g c = promised g.S.Store.meaning g.S.Store.keeps g.T.Tally.tallying g.T.Tally.laws _ c.args.tally c.args.calls.now

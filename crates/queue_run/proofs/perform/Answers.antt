@@ -20,5 +20,5 @@ returns g c =
       );
     }
 
-pub returns-in_default-clause-keeps : goal.returns-in_default-clause-keeps
-returns-in_default-clause-keeps g c = promised g.Q.Queue.meaning g.Q.Order.Order.before g.met.Q.Queue.keeps g.met.Q.Order.Order.laws c.args.capacity _ c.args.calls.now
+pub returns-in-Err-clause-keeps : goal.returns-in-Err-clause-keeps
+returns-in-Err-clause-keeps g c = promised g.Q.Queue.meaning g.Q.Order.Order.before g.met.Q.Queue.keeps g.met.Q.Order.Order.laws c.args.capacity _ c.args.calls.now
