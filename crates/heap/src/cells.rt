@@ -22,7 +22,7 @@ pub(crate) const KEY: u8 = 1;
 
 pub(crate) const PLACE: u8 = 2;
 
-// The capacity of a heap over so many cells of so many bits.
+// The capacity of a heap over so many cells of so many bits, or 0, which it tells as such, where these are unfit.
 pub(crate) fn room(size: u64, width: u32) -> u64
     ensures value { result ≡ room_of size width }
     ensures few { result ≤ most_tickets }

@@ -5,7 +5,8 @@ ghost use Rattle.words.specs.Lines.{setting_at};
 use std::alloc::{AllocError, Global};
 use words::reason::Reason;
 
-// The calls in their order, and each one's text as the script has it.
+// The calls in their order, and each one's text as the script has it. Two vectors and not one of pairs, since the calls are performed
+// as a slice of calls.
 #[derive(Drop)]
 pub struct Calls<'a, C: Copy> {
     list: Vec<C>,

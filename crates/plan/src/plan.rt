@@ -9,7 +9,7 @@ use std::alloc::{AllocError, Global};
 use store_laws::Alteration;
 use words::reason::Reason;
 use words::statement::Statement;
-use words::words::Words;
+use words::words::{Words, is};
 
 // A section as far as it is read.
 #[derive(Drop)]
@@ -53,9 +53,10 @@ impl<'a, K: Kind> Plan<'a, K> {
     pub fn read(said: &mut Statement<'_>) -> Result<Line<K::Setting, K::Call>, Reason>
         ensures { result ≡ line_said K.Kind.reading said.old.name.now (left said.old.words) }
     {
-        match said.name {
-            b"alter" => Ok(Line::Alters(alteration(&mut said.words)?)),
-            _ => K::line(said),
+        if is(said.name, "alter") {
+            Ok(Line::Alters(alteration(&mut said.words)?))
+        } else {
+            K::line(said)
         }
     }
 

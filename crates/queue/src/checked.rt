@@ -20,7 +20,7 @@ pub struct CheckedQueue<Q> {
     latch: Latch<QueueFault>,
 }
 
-// The capacity of a check over a queue of this capacity, or 0 where it is unfit.
+// The capacity of a check over a queue of this capacity, or 0, which it tells as such, where it is unfit.
 fn fit_capacity(capacity: u64, below: u64) -> u64
     ensures value { result ≡ fitting capacity below }
     ensures few { result ≤ most_tickets }
