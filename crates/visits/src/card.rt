@@ -5,9 +5,10 @@ ghost use Rattle.visits.specs.Cards.{answers_to};
 use super::print::{flush, lines};
 use memory_laws::call::Answer;
 use memory_run::perform;
+use plan::plan::Plan;
 use report::card::summary;
 use report::out::Out;
-use script::card::{Card, Rule, Tally};
+use script::card::{Card, Rule};
 use std::alloc::{AllocError, Global};
 use std::io;
 use store::altering::Altering;
@@ -35,17 +36,15 @@ fn zeros(heap: Global, n: usize) -> Result<Vec<u64>, AllocError>
 }
 
 // The answers to the section's calls.
-fn answers(heap: Global, card: &Card<'_>) -> Result<Vec<Answer>, AllocError>
-    ensures { IfOk result (λ v. v.items ≡ answers_to card.now) }
+fn answers(heap: Global, plan: &Plan<'_, Card>) -> Result<Vec<Answer>, AllocError>
+    ensures { IfOk result (λ v. v.items ≡ answers_to plan.now) }
 {
-    let mut words = zeros(heap, handed_size(card.size))?;
-    let array = Array::new(words.as_mut_slice(), handed_width(card.width));
-    let store = Altering::new(array, card.alterations.as_slice());
-    let tally = card.tally.unwrap_or(Tally {
-        rule: Rule::Sum,
-        key: 0,
-    });
-    let calls = card.calls.as_slice();
+    let Card { cells, tally } = plan.kind;
+    let mut words = zeros(heap, handed_size(cells.size))?;
+    let array = Array::new(words.as_mut_slice(), handed_width(cells.width));
+    let store = Altering::new(array, plan.alterations.as_slice());
+    let tally = tally.unwrap_or_default();
+    let calls = plan.calls.as_slice();
     match tally.rule {
         Rule::Sum => perform(heap, store, Sum { key: tally.key }, calls).1,
         Rule::Xor => perform(heap, store, Xor { key: tally.key }, calls).1,
@@ -53,10 +52,15 @@ fn answers(heap: Global, card: &Card<'_>) -> Result<Vec<Answer>, AllocError>
 }
 
 // Performs the section's calls and prints what was done.
-pub fn perform_and_print(rt: &HostRuntime, out: &mut Out, card: &Card<'_>) -> io::Result<bool> {
-    let answers = answers(rt.alloc(), card)?;
-    lines(rt, out, card.calls.texts(), answers.as_slice())?;
-    summary(out, card.size, card.width, answers.as_slice())?;
+pub fn perform_and_print(
+    rt: &HostRuntime,
+    out: &mut Out,
+    plan: &Plan<'_, Card>,
+) -> io::Result<bool> {
+    let answers = answers(rt.alloc(), plan)?;
+    lines(rt, out, plan.calls.texts(), answers.as_slice())?;
+    let cells = plan.kind.cells;
+    summary(out, cells.size, cells.width, answers.as_slice())?;
     flush(rt, out)?;
     Ok(true)
 }

@@ -23,18 +23,20 @@ fn misused(rt: &HostRuntime, what: &str, argument: &str) -> io::Result<bool> {
     Ok(false)
 }
 
-fn complain_of_line(rt: &HostRuntime, bad: BadLine) -> io::Result<bool> {
-    let line = bad.line;
-    let reason = bad.reason.text();
-    eprintln!(rt; "visits: line {line}: {reason}")?;
+fn complain_of_line(rt: &HostRuntime, bad: &BadLine) -> io::Result<bool> {
+    eprintln!(rt; "visits: {bad}")?;
     Ok(false)
 }
 
 // Performs a section and prints it; whether it could be.
-fn perform_section(rt: &HostRuntime, out: &mut Out, section: &Section<'_>) -> io::Result<bool> {
+fn perform_section(
+    rt: &HostRuntime,
+    out: &mut Out,
+    section: &Result<Section<'_>, BadLine>,
+) -> io::Result<bool> {
     match section {
-        Section::Card(card) => card::perform_and_print(rt, out, card),
-        Section::Bad(bad) => complain_of_line(rt, *bad),
+        Ok(Section::Card(plan)) => card::perform_and_print(rt, out, plan),
+        Err(bad) => complain_of_line(rt, bad),
     }
 }
 
