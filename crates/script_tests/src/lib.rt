@@ -16,9 +16,9 @@ mod tests {
     ) -> Result<(), Fail> {
         let sections = parse(rt.alloc(), script.as_bytes())?;
         match sections.as_slice().last() {
-            Some(Section::Bad(bad)) => {
-                assert_eq!(rt; bad.line, line, "{}", script);
-                assert!(rt; bad.reason.text() == reason, "{}", script);
+            Some(Err(bad)) => {
+                assert_eq!(rt; bad.line, line, "{script}");
+                assert_eq!(rt; bad.reason.text(), reason, "{script}");
                 Ok(())
             }
             _ => Err(Fail::new(script)),
@@ -29,8 +29,8 @@ mod tests {
     fn read(rt: &(impl Abort + AllocGlobal), script: &str, calls: usize) -> Result<(), Fail> {
         let sections = parse(rt.alloc(), script.as_bytes())?;
         match sections.as_slice().last() {
-            Some(Section::Card(card)) => {
-                assert_eq!(rt; card.calls.as_slice().len(), calls, "{}", script);
+            Some(Ok(Section::Card(plan))) => {
+                assert_eq!(rt; plan.calls.as_slice().len(), calls, "{script}");
                 Ok(())
             }
             _ => Err(Fail::new(script)),

@@ -1,4 +1,4 @@
-use Rattle.std.proofs.Common.{◌≡◌, ◌+◌, ◌≤◌, List, [], length, vec_items}
+use Rattle.std.proofs.Common.{◌+◌, ◌≤◌, List, [], length, vec_items}
 use Rattle.words.specs.Taken.{lines_left}
 use Rattle.words.specs.Words.{lines}
 use Rattle.script.specs.Sections.{Outcome, ScriptTook}

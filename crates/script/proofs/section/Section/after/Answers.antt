@@ -2,7 +2,6 @@ use Rattle.std.proofs.Common.{◌≡◌, ℕ, List, Ok, Err, Result, sym, subst�
 use Rattle.memory_laws.specs.declared.call.Call.{Call}
 use Rattle.words.specs.declared.reason.BadLine.{BadLine}
 use Rattle.words.specs.declared.reason.Reason.{Reason}
-use Rattle.words.specs.Taken.{left}
 use Rattle.plan.specs.Plans.{read_line, Takes}
 use Rattle.plan.specs.declared.kind.Line as plans
 use Rattle.plan.specs.declared.plan.Plan.{Plan}
