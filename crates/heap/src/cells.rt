@@ -22,7 +22,8 @@ pub(crate) const KEY: u8 = 1;
 
 pub(crate) const PLACE: u8 = 2;
 
-// The capacity of a heap over so many cells of so many bits, or 0, which it tells as such, where these are unfit.
+// The capacity of a heap over so many cells of so many bits, or 0, which it tells as such, where these are unfit. Array, check and heap
+// each test a size and a width by two ranges: one function of the lower ends would be no shorter.
 pub(crate) fn room(size: u64, width: u32) -> u64
     ensures value { result ≡ room_of size width }
     ensures few { result ≤ most_tickets }

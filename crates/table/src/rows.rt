@@ -118,6 +118,7 @@ impl Table {
         ensures tickets { self.new.tickets ≡ self.old.tickets }
         ensures rows { rows self.new ≡ raised O.Order.before (rows self.old) key }
     {
+        // over tickets, and not over the items of an array, since a row has an item in each of four
         for t in 0..self.tickets {
             self.raise_one(order, t, key);
         }
