@@ -11,13 +11,17 @@ use queue_run::perform;
 use std::test::Fail;
 use store::array::Array;
 
-// The two keys wait as tickets 0 and 1, and ticket 1 is named.
-fn named_second(first: u64, second: u64) -> Result<CheckedQueue<Stubborn>, QueueFault> {
-    let stubborn = Stubborn {
+// A queue that names ticket 1 for ever.
+fn naming_second() -> Stubborn {
+    Stubborn {
         order: Earliest,
         ticket: 1,
-    };
-    let mut queue = CheckedQueue::new(stubborn, 2);
+    }
+}
+
+// The two keys wait as tickets 0 and 1, and ticket 1 is named.
+fn named_second(first: u64, second: u64) -> Result<CheckedQueue<Stubborn>, QueueFault> {
+    let mut queue = CheckedQueue::new(naming_second(), 2);
     queue.put(0, first)?;
     queue.put(1, second)?;
     let _ = queue.least()?;
@@ -49,6 +53,22 @@ fn catches(rt: HostRuntime) {
     assert_eq!(rt; audit_after(9, 8), Ok(()));
 }
 
+// A ticket that was passed over shows in a list of calls too.
+#[test]
+fn performed(rt: HostRuntime) -> Result<(), Fail> {
+    let calls = [
+        Call::Put { ticket: 0, key: 5 },
+        Call::Put { ticket: 1, key: 8 },
+        Call::Least,
+        Call::Remove { ticket: 0 },
+    ];
+    let (_, answers) = perform(rt.alloc(), naming_second(), 2, &calls);
+    let answers = answers?;
+    assert_eq!(rt; answers.get(2), Some(&Answer::Named(1)));
+    assert_eq!(rt; answers.get(3), Some(&Answer::Failed(passed_over())));
+    Ok(())
+}
+
 #[test]
 fn faults_by_rank(rt: HostRuntime) {
     let class = 0x100_0000;
@@ -56,26 +76,6 @@ fn faults_by_rank(rt: HostRuntime) {
     assert!(rt; !ByFault.is_before(5, class + 900));
     assert!(rt; !ByFault.is_before(4 * class + 9, 7 * class + 9));
     assert!(rt; !ByFault.is_before(7 * class + 9, 4 * class + 9));
-}
-
-// The queue that names one ticket for ever, under a list of calls.
-#[test]
-fn performed(rt: HostRuntime) -> Result<(), Fail> {
-    let stubborn = Stubborn {
-        order: Earliest,
-        ticket: 1,
-    };
-    let calls = [
-        Call::Put { ticket: 0, key: 5 },
-        Call::Put { ticket: 1, key: 8 },
-        Call::Least,
-        Call::Remove { ticket: 0 },
-    ];
-    let (_, answers) = perform(rt.alloc(), stubborn, 2, &calls);
-    let answers = answers?;
-    assert_eq!(rt; answers.get(2), Some(&Answer::Named(1)));
-    assert_eq!(rt; answers.get(3), Some(&Answer::Failed(passed_over())));
-    Ok(())
 }
 
 // Four tickets on a pile over 12 cells of 48 bits.
