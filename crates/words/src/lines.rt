@@ -30,6 +30,7 @@ pub struct Lines<'a> {
 }
 
 impl<'a> Lines<'a> {
+    #[tactic(auto, using(crate::proofs::LineSteps::few_lines))]
     pub fn new(text: &'a [u8]) -> Lines<'a>
         ensures left { lines_left result ≡ lines text.now }
         ensures few { length (lines_left result) ≤ length text.now }

@@ -1,5 +1,0 @@
-use Rattle.words.proofs.LineSteps.{few_lines}
-use Rattle.words.proofs.lines.Lines.new.Goals as goal
-
-pub returns-clause-few : goal.returns-clause-few
-returns-clause-few c = few_lines c.args.text.now
