@@ -35,7 +35,7 @@ impl<S: Store, O: Order> Heap<S, O> {
         heap
     }
 
-    // Takes the heap apart, and gives the store back.
+    // Takes the heap apart, and gives the store back. Each part takes its own fields apart; a trait would do so again for each.
     pub fn into_store(self) -> S
     where
         O: Drop,

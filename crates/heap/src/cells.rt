@@ -22,8 +22,8 @@ pub(crate) const KEY: u8 = 1;
 
 pub(crate) const PLACE: u8 = 2;
 
-// The capacity of a heap over so many cells of so many bits, or 0, which it tells as such, where these are unfit. Array, check and heap
-// each test a size and a width by two ranges: one function of the lower ends would be no shorter.
+// The capacity of a heap over so many cells of so many bits, or 0, which it tells as such, where these are unfit: two ranges, which a
+// function for all parts would not shorten.
 pub(crate) fn room(size: u64, width: u32) -> u64
     ensures value { result ≡ room_of size width }
     ensures few { result ≤ most_tickets }
@@ -44,14 +44,14 @@ pub(crate) fn cell<const PART: u8>(index: u64) -> u64
     ENTRY_CELLS * index + u64::from(PART)
 }
 
-// The height of a heap over the store.
+// The height of a heap over the store. Three clauses say it in full, for which a name would be one word more to look up.
 pub(crate) fn height_over<S: Store>(store: &S) -> u8
     ensures { result ≡ min 255 (S.Store.meaning.height (S.Store.state store.now) + 1) }
 {
     store.height().saturating_add(1)
 }
 
-// A fault that the heap itself finds.
+// A fault that the heap itself finds. Each part makes its own, since each knows its height in its own way.
 pub(crate) fn own<S: Store>(store: &S, cause: Cause, ticket: u64) -> QueueFault
     ensures { result ≡ found cause (min 255 (S.Store.meaning.height (S.Store.state store.now) + 1)) ticket }
 {

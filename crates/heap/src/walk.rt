@@ -141,7 +141,7 @@ impl<S: Store, O: Order> Walk<'_, '_, S, O> {
         self.place(entry)
     }
 
-    // Seats the entry that stands behind these.
+    // Seats the last entry, which is no longer counted.
     pub(crate) fn fill(&mut self) -> Result<(), QueueFault>
         requires { self.old.count < self.old.capacity }
         ensures { Leaves S.Store.state self.old self.new result (filling S.Store.meaning O.Order.before self.old.capacity self.old.count self.old.hole) }

@@ -28,7 +28,7 @@ pub struct CheckedMemory<S, T: Tally> {
     latch: Latch<Fault>,
 }
 
-// Whether a store of this size and width can be checked.
+// Whether a store of this size and width can be checked: two ranges, which a function for all parts would not shorten.
 fn is_checkable(size: u64, width: u32) -> bool
     ensures { result ≡ checkable size width }
 {
@@ -36,7 +36,7 @@ fn is_checkable(size: u64, width: u32) -> bool
 }
 
 impl<S: Store, T: Tally> CheckedMemory<S, T> {
-    // A fault that the memory itself finds.
+    // A fault that the memory itself finds. Each part makes its own, since each knows its height in its own way.
     fn own(&self, cause: Cause, place: u64) -> Fault
         ensures { result ≡ fault cause (height (plain S.Store.meaning) T.Tally.tallying (view S.Store.state self.now)) place }
     {
@@ -121,6 +121,7 @@ impl<S: Store, T: Tally> CheckedMemory<S, T> {
     {
         let size = store.size();
         let width = store.width();
+        // an unfit memory has no cells, and tells 0 as its size and width
         if !is_checkable(size, width) {
             return CheckedMemory::blank(store, tally, 0, 0);
         }
@@ -210,7 +211,7 @@ impl<S: Store, T: Tally> CheckedMemory<S, T> {
         self.latch.settle(result)
     }
 
-    // Takes the memory apart, and gives the store back.
+    // Takes the memory apart, and gives the store back. Each part takes its own fields apart; a trait would do so again for each.
     pub fn into_store(self) -> S
     where
         T: Drop,

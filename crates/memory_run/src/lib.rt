@@ -37,7 +37,7 @@ impl<S: Store, T: Tally> Performs for Answering<S, T> {
         };
         match outcome {
             Ok(answer) => answer,
-            // A call without a result was declined, unless the memory is broken.
+            // As in queue_run, whose answers are an enum of their own: a call without a result was declined, unless the memory is broken.
             Err(fault) => match memory.fault() {
                 None => Answer::Declined(fault),
                 Some(_) => Answer::Failed(fault),

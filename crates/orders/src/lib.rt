@@ -8,7 +8,7 @@ ghost use Rattle.order_laws.proofs.Laws.{earlier_laws, lexical_laws};
 use parts::order::Order;
 
 // Smaller keys first.
-#[derive(Clone, Copy)]
+#[derive(Clone, Copy, Debug, PartialEq, Eq)]
 pub struct Earliest;
 
 impl Order for Earliest {
@@ -22,7 +22,7 @@ impl Order for Earliest {
 }
 
 // A key is a fault's class times 2^24 plus a minute: the smaller rank first, at equal rank the smaller minute.
-#[derive(Clone, Copy)]
+#[derive(Clone, Copy, Debug, PartialEq, Eq)]
 pub struct ByFault;
 
 // The ranks of the classes from 0 up.

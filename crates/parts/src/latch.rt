@@ -22,7 +22,7 @@ impl<F: Copy> Latch<F> {
         self.first.map_or(Ok(()), Err)
     }
 
-    // A fault breaks the part.
+    // A fault breaks the part. Each call asks first whether the part is unbroken, so that the fault is its first.
     pub fn settle<A>(&mut self, outcome: Result<A, F>) -> Result<A, F>
         ensures answer { result ≡ outcome }
         ensures first { self.new.first ≡ first_kept self.old.first outcome }

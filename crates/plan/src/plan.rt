@@ -19,6 +19,7 @@ pub struct Plan<'a, K: Kind> {
     pub calls: Calls<'a, K::Call>,
 }
 
+// AFTER CELL WORD. What reads the numbers of a line names each where it reads it, which an array of numbers would leave to its caller.
 fn alteration(words: &mut Words<'_>) -> Result<Alteration, Reason>
     ensures { result ≡ alteration_said (left words.old) }
 {

@@ -46,7 +46,7 @@ impl<Q: Queue> CheckedQueue<Q> {
         }
     }
 
-    // A fault that the check itself finds.
+    // A fault that the check itself finds. Each part makes its own, since each knows its height in its own way.
     fn own(&self, cause: Cause, ticket: u64) -> QueueFault
         ensures { result ≡ found cause (height Q.Queue.meaning Q.Order.before (view Q.Queue.state self.now)) ticket }
     {
@@ -135,6 +135,7 @@ impl<Q: Queue> CheckedQueue<Q> {
     fn no_offender(&self) -> Result<(), QueueFault>
         ensures { result ≡ (auditing Q.Queue.meaning Q.Order.before (first_offender Q.Order.before (rows self.now.table) self.now.table.tickets) (view Q.Queue.state self.now)).0 }
     {
+        // a match, since `map_or(Ok(()), ..)` would say first what is answered last, and be no shorter
         match self.table.first_offender(self.below.order()) {
             Some(ticket) => Err(self.own(Cause::KeyBeforeBound, ticket)),
             None => Ok(()),
@@ -151,7 +152,7 @@ impl<Q: Queue> CheckedQueue<Q> {
         self.latch.settle(audited)
     }
 
-    // Takes the check apart, and gives the queue back.
+    // Takes the check apart, and gives the queue back. Each part takes its own fields apart; a trait would do so again for each.
     pub fn into_queue(self) -> Q
         ensures { Q.Queue.state result ≡ (view Q.Queue.state self).below }
     {

@@ -39,7 +39,7 @@ impl<Q: Queue> Performs for Answering<Q> {
         };
         match outcome {
             Ok(answer) => answer,
-            // A call without a result was declined, unless the queue is broken.
+            // As in memory_run, whose answers are an enum of their own: a call without a result was declined, unless the queue is broken.
             Err(fault) => match queue.fault() {
                 None => Answer::Declined(fault),
                 Some(_) => Answer::Failed(fault),

@@ -57,23 +57,6 @@ fn passed(answers: &[Answer]) -> usize
         .count()
 }
 
-// A card's size in cells, and the width of a cell in bits.
-#[derive(Clone, Copy)]
-struct Shape {
-    size: u64,
-    width: u64,
-}
-
-impl fmt::Display for Shape {
-    ghost output = { λ card. Some (shown_card card.size card.width) };
-
-    fn fmt<W: fmt::Write>(&self, f: &mut fmt::Formatter<W>) -> fmt::Result {
-        let size = self.size;
-        let width = self.width;
-        write!(f, "card {size} {width}")
-    }
-}
-
 // What was done.
 #[derive(Clone, Copy)]
 struct Done<'a>(&'a [Answer]);
@@ -96,5 +79,5 @@ impl fmt::Display for Done<'_> {
 pub fn summary(out: &mut Out, size: u64, width: u64, answers: &[Answer]) -> Result<(), AllocError>
     ensures { OnOk result (out.new ≡ out.old ++ shown_summary size width answers.now) }
 {
-    writeln!(out, "{}: {}", Shape { size, width }, Done(answers))
+    writeln!(out, "card {size} {width}: {}", Done(answers))
 }

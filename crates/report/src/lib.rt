@@ -5,3 +5,5 @@ pub mod card;
 pub mod fault;
 pub mod out;
 pub mod shown;
+#[cfg(test)]
+mod tests;

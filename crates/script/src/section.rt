@@ -19,6 +19,9 @@ pub enum Section<'a> {
     Card(Plan<'a, Card>),
 }
 
+// A section, or its first line that makes no sense.
+pub type Outcome<'a> = Result<Section<'a>, BadLine>;
+
 // A line of the script that has a word: its number, its text without the white space at its ends, and what it says.
 #[derive(Drop)]
 struct Line<'a> {
@@ -41,7 +44,7 @@ impl<'a> Line<'a> {
 
 impl<'a> Section<'a> {
     // The section that the line begins, if its first word is a section's.
-    fn begin(heap: Global, line: &mut Line<'_>) -> Option<Result<Section<'a>, BadLine>>
+    fn begin(heap: Global, line: &mut Line<'_>) -> Option<Outcome<'a>>
         ensures { MatchOption result ((begins line.old.said.name.now ≡ false) × (line.new ≡ line.old)) (λ s. (begins line.old.said.name.now ≡ true) × Begun line.old.number (card_said (left line.old.said.words)) s) }
     {
         match line.said.name {
@@ -53,8 +56,8 @@ impl<'a> Section<'a> {
         }
     }
 
-    // The section after a line that goes to it; one that makes no sense spoils it.
-    fn after(self, line: &mut Line<'a>) -> Result<Result<Section<'a>, BadLine>, AllocError>
+    // The section after a line that goes to it; one that makes no sense spoils it, and want of memory ends the reading.
+    fn after(self, line: &mut Line<'a>) -> Result<Outcome<'a>, AllocError>
         ensures { IfOk result (λ after. Took line.old.number line.old.said.name.now (left line.old.said.words) line.old.text (Ok self.entry) after) }
     {
         match self {
@@ -73,10 +76,7 @@ fn is_comment(name: &[u8]) -> bool
 }
 
 // Hands a line to the last section; where there is none, the line makes no sense.
-fn go_on<'a>(
-    sections: &mut Vec<Result<Section<'a>, BadLine>>,
-    line: &mut Line<'a>,
-) -> Result<(), AllocError>
+fn go_on<'a>(sections: &mut Vec<Outcome<'a>>, line: &mut Line<'a>) -> Result<(), AllocError>
     ensures { OnOk result (Goes line.old.number line.old.said.name.now (left line.old.said.words) line.old.text sections.old.items sections.new.items) }
 {
     let section = match sections.pop() {
@@ -90,7 +90,7 @@ fn go_on<'a>(
 
 // Takes in a line of the script, without the white space at its ends.
 fn take_line<'a>(
-    sections: &mut Vec<Result<Section<'a>, BadLine>>,
+    sections: &mut Vec<Outcome<'a>>,
     heap: Global,
     number: u64,
     text: &'a [u8],
@@ -113,7 +113,7 @@ fn take_line<'a>(
 
 // The sections of a script, in their order. In place of one that has a line that makes no sense stands the first such line. The lines
 // before the first section make a section of their own, in which none makes sense.
-pub fn parse(heap: Global, script: &[u8]) -> Result<Vec<Result<Section<'_>, BadLine>>, AllocError>
+pub fn parse(heap: Global, script: &[u8]) -> Result<Vec<Outcome<'_>>, AllocError>
     ensures { IfOk result (λ v. ScriptTook 0 (lines script.now) [] v.items) }
 {
     let mut sections = Vec::new(heap);

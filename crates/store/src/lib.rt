@@ -21,7 +21,8 @@ struct Shape {
 }
 
 impl Shape {
-    // Whether a store may have so many cells of so many bits.
+    // Whether a store may have so many cells of so many bits. Array, check and heap each test a size and a width by two ranges: one
+    // function of the lower ends would be no shorter.
     fn is_fit(self) -> bool
         ensures { result ≡ fit self.cells self.width }
     {

@@ -9,17 +9,18 @@ use parts::store::Store;
 
 #[derive(Drop)]
 pub struct Replay<'a> {
-    words: &'a [u64],
+    // the words that are left to be answered
+    left: &'a [u64],
     shape: Shape,
 }
 
 impl<'a> Replay<'a> {
     // A replay of the words, which tells this size and this width. The words are only read.
     pub fn new(words: &'a [u64], cells: u64, width: u32) -> Replay<'a>
-        ensures { (result.words.now ≡ words.now) × ((result.shape.cells ≡ cells) × (result.shape.width ≡ width)) }
+        ensures { (result.left.now ≡ words.now) × ((result.shape.cells ≡ cells) × (result.shape.width ≡ width)) }
     {
         Replay {
-            words,
+            left: words,
             shape: Shape { cells, width },
         }
     }
@@ -28,7 +29,7 @@ impl<'a> Replay<'a> {
 impl Store for Replay<'_> {
     ghost meaning = { replay_meaning };
 
-    ghost state = { λ s. record { words = s.words.now; cells = s.shape.cells; wide = s.shape.width } };
+    ghost state = { λ s. record { left = s.left.now; cells = s.shape.cells; wide = s.shape.width } };
 
     ghost keeps = { replay_keeps };
 
@@ -48,10 +49,10 @@ impl Store for Replay<'_> {
         if !self.shape.is_fit() {
             return Err(bottom_fault(Cause::NoSuchCell, cell));
         }
-        let [word, rest @ ..] = self.words else {
+        let [word, rest @ ..] = self.left else {
             return Err(bottom_fault(Cause::ReplayEnded, cell));
         };
-        self.words = rest;
+        self.left = rest;
         Ok(*word)
     }
 

@@ -4,7 +4,7 @@ use Rattle.parts.specs.Meaning.{Keeps, fault}
 use Rattle.store_laws.specs.ReplayMachine.{Recorded, fits, next_word, replay_read, replay_meaning}
 
 module _ (s : Recorded) (a : ℕ) where
-  next_at : (ws : List ℕ) (i : ℕ) → i < length ws → next_word s a (drop i ws) ≡ (Ok (get_or ws i 0), record { words = drop (suc i) ws; cells = s.cells; wide = s.wide })
+  next_at : (ws : List ℕ) (i : ℕ) → i < length ws → next_word s a (drop i ws) ≡ (Ok (get_or ws i 0), record { left = drop (suc i) ws; cells = s.cells; wide = s.wide })
   next_at [] i lt = absurd (omega arith)
   next_at (x ∷ xs) zero lt = refl
   next_at (x ∷ xs) (suc i) lt = next_at xs i (omega arith)
@@ -16,11 +16,11 @@ module _ (s : Recorded) (a : ℕ) where
   none_at (x ∷ xs) (suc i) le = none_at xs i (omega arith)
 
   -- Where i of the words ws were answered, the word at i is answered next ..
-  pub read_at : (ws : List ℕ) (i : ℕ) → fits s ≡ true → s.words ≡ drop i ws → i < length ws → replay_read s a ≡ (Ok (get_or ws i 0), record { words = drop (suc i) ws; cells = s.cells; wide = s.wide })
+  pub read_at : (ws : List ℕ) (i : ℕ) → fits s ≡ true → s.left ≡ drop i ws → i < length ws → replay_read s a ≡ (Ok (get_or ws i 0), record { left = drop (suc i) ws; cells = s.cells; wide = s.wide })
   read_at ws i f e lt = rw f (ap (next_word s a) e ∙ next_at ws i lt)
 
   -- .. and after the last of them the replay has ended.
-  pub read_ended : (ws : List ℕ) (i : ℕ) → fits s ≡ true → s.words ≡ drop i ws → length ws ≤ i → replay_read s a ≡ (Err (fault ReplayEnded 0 a), s)
+  pub read_ended : (ws : List ℕ) (i : ℕ) → fits s ≡ true → s.left ≡ drop i ws → length ws ≤ i → replay_read s a ≡ (Err (fault ReplayEnded 0 a), s)
   read_ended ws i f e le = rw f (ap (next_word s a) e ∙ none_at ws i le)
 
 -- nothing is owed by what is never loyal

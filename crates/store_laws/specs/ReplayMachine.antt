@@ -7,7 +7,7 @@ use Rattle.parts.specs.Meaning.{Meaning, fit, fault}
 
 -- the handed words that are left to be answered, and the given size and width
 pub record Recorded : Type 0 where
-  pub words : List ℕ
+  pub left : List ℕ
   pub cells : ℕ
   pub wide : ℕ
 
@@ -17,10 +17,10 @@ fits s = fit s.cells s.wide
 -- the first of the words that are left is answered, whatever cell is asked
 abbrev pub next_word : Recorded → ℕ → List ℕ → Outcome Fault ℕ Recorded
 next_word s a [] = (Err (fault ReplayEnded 0 a), s)
-next_word s a (x ∷ xs) = (Ok x, record { words = xs; cells = s.cells; wide = s.wide })
+next_word s a (x ∷ xs) = (Ok x, record { left = xs; cells = s.cells; wide = s.wide })
 
 abbrev pub replay_read : Recorded → ℕ → Outcome Fault ℕ Recorded
-replay_read s a = cond (fits s) (next_word s a s.words) (Err (fault NoSuchCell 0 a), s)
+replay_read s a = cond (fits s) (next_word s a s.left) (Err (fault NoSuchCell 0 a), s)
 
 abbrev pub replay_write : Recorded → ℕ → ℕ → Outcome Fault (Unit {0}) Recorded
 replay_write s a v = cond (fits s) (Ok tt, s) (Err (fault NoSuchCell 0 a), s)

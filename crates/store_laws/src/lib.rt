@@ -2,7 +2,7 @@
 #![tactic(auto)]
 
 // An alteration by somebody with a key: after so many accesses of a store, and before the next, the cell holds the word.
-#[derive(Clone, Copy)]
+#[derive(Clone, Copy, Debug, PartialEq, Eq)]
 pub struct Alteration {
     pub after: u64,
     pub cell: u64,

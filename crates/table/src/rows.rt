@@ -23,7 +23,7 @@ impl Table {
         }
     }
 
-    // Nothing waits any more.
+    // Nothing waits any more. That the tickets stay is a clause of each call that changes rows: it is of two states, and no invariant of one.
     pub fn clear(&mut self)
         ensures tickets { self.new.tickets ≡ self.old.tickets }
         ensures rows { rows self.new ≡ empty_table }
@@ -118,7 +118,7 @@ impl Table {
         ensures tickets { self.new.tickets ≡ self.old.tickets }
         ensures rows { rows self.new ≡ raised O.Order.before (rows self.old) key }
     {
-        // over tickets, and not over the items of an array, since a row has an item in each of four
+        // over tickets, since a ticket has an item in each of the arrays
         for t in 0..self.tickets {
             self.raise_one(order, t, key);
         }

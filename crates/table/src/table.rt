@@ -5,7 +5,7 @@ ghost use Rattle.parts.specs.Queues.{most_tickets};
 use parts::queue::MOST_TICKETS;
 
 // Of each ticket below `tickets` whether it waits, its key, whether it has a bound, and the bound.
-// In fixed memory and without a heap these are arrays of keys, bounds and flags, and not a list of rows.
+// That these are arrays of keys, bounds and flags, in fixed memory, is a form that the project asks for.
 #[derive(Drop)]
 pub struct Table {
     pub(crate) tickets: u64,

@@ -5,7 +5,7 @@ ghost use Rattle.memory_laws.proofs.Mixes.{sum_laws};
 use super::mix;
 use parts::tally::Tally;
 
-#[derive(Clone, Copy)]
+#[derive(Clone, Copy, Debug, PartialEq, Eq)]
 pub struct Sum {
     pub key: u64,
 }

@@ -5,7 +5,7 @@ ghost use Rattle.memory_laws.proofs.Mixes.{xor_laws};
 use super::mix;
 use parts::tally::Tally;
 
-#[derive(Clone, Copy)]
+#[derive(Clone, Copy, Debug, PartialEq, Eq)]
 pub struct Xor {
     pub key: u64,
 }

@@ -6,6 +6,7 @@ use super::altered;
 use super::print::Printer;
 use memory_laws::call::Answer;
 use memory_run::perform;
+use parts::tally::Tally;
 use plan::plan::Plan;
 use report::card::summary;
 use script::card::{Card, Rule};
@@ -14,7 +15,7 @@ use std::io;
 use tallies::{Sum, Xor};
 
 // The answers to the section's calls under the tally.
-fn answers_under<T: parts::tally::Tally + Drop>(
+fn answers_under<T: Tally + Drop>(
     heap: Global,
     tally: T,
     plan: &Plan<'_, Card>,

@@ -24,7 +24,8 @@ pub fn is(word: &[u8], name: &str) -> bool
     word == name.as_bytes()
 }
 
-// How many bytes at the front are white.
+// How many bytes at the front are white. This and the next two are a chain each: one function of the test and the end it begins at would
+// ask for the clauses of a closure, and be no shorter.
 fn gap_len(line: &[u8]) -> usize
     ensures within { result ≤ length line.now }
     ensures value { result ≡ prefix_len white line.now }
@@ -97,10 +98,7 @@ impl<'a> Words<'a> {
     pub fn end(&mut self) -> Result<(), Reason>
         ensures { result ≡ ended (left self.old) }
     {
-        match self.next() {
-            Some(_) => Err(Reason::ExtraWord),
-            None => Ok(()),
-        }
+        self.next().map_or(Ok(()), |_| Err(Reason::ExtraWord))
     }
 }
 
