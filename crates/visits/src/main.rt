@@ -6,7 +6,7 @@ use print::Printer;
 use script::section::{Section, parse};
 use std::io::Read;
 use std::process::ExitCode;
-use std::{env, fs};
+use std::{env, fs, io};
 
 mod altered;
 mod card;
@@ -60,7 +60,7 @@ fn perform_argument(rt: &HostRuntime, argument: String) -> Result<ExitCode, Fail
 }
 
 // Does what the arguments ask.
-fn run(rt: &HostRuntime) -> Result<ExitCode, Failure> {
+fn perform(rt: &HostRuntime) -> Result<ExitCode, Failure> {
     let mut arguments = env::args(rt)?.skip(1);
     let first = arguments.next();
     if let Some(second) = arguments.next() {
@@ -72,9 +72,21 @@ fn run(rt: &HostRuntime) -> Result<ExitCode, Failure> {
     }
 }
 
+// Does so, and says on standard error why a script was not performed.
+fn run(rt: &HostRuntime) -> io::Result<ExitCode> {
+    match perform(rt) {
+        Err(Failure::System(error)) => Err(error),
+        Err(failure) => {
+            eprintln!(rt; "visits: {failure}")?;
+            Ok(ExitCode::FAILURE)
+        }
+        Ok(status) => Ok(status),
+    }
+}
+
 fn main(rt: HostRuntime) -> ExitCode {
-    run(&rt).unwrap_or_else(|failure| {
-        let _ = eprintln!(rt; "visits: {failure}");
+    run(&rt).unwrap_or_else(|error| {
+        let _ = eprintln!(rt; "visits: {error}");
         ExitCode::FAILURE
     })
 }
