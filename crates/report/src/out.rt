@@ -1,5 +1,5 @@
 // Text at the end of a buffer of bytes.
-ghost use Rattle.std.specs.Prelude.{◌≡◌, ℕ, List, [], ◌++◌, OnOk};
+ghost use Rattle.std.specs.Prelude.{◌≡◌, ℕ, List, [], ◌++◌, decimal, OnOk};
 ghost use Rattle.std.specs.Fmt.{AppendsText};
 
 use std::alloc::{AllocError, Global};
@@ -52,6 +52,13 @@ impl Out {
         ensures { OnOk result (self.new ≡ self.old ++ bytes.now) }
     {
         self.bytes.extend_from_slice(bytes)
+    }
+
+    // The number in decimal. What a line begins with is written so, and not by `write!`, which took the whole program a twentieth longer.
+    pub fn number(&mut self, n: u64) -> Result<(), AllocError>
+        ensures { OnOk result (self.new ≡ self.old ++ decimal n) }
+    {
+        self.raw(itoa::Buffer::new().format(n).as_bytes())
     }
 
     // What `write!` calls. No value that is printed here fails by itself, so an error is the buffer's.

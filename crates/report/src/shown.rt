@@ -29,7 +29,8 @@ pub trait Shown {
 pub fn line<A: Shown>(out: &mut Out, number: u64, text: &[u8], answer: &A) -> Result<(), AllocError>
     ensures { OnOk result (out.new ≡ out.old ++ shown_line number text.now (A.Shown.shown answer.now)) }
 {
-    write!(out, "{number} ")?;
+    out.number(number)?;
+    out.raw(b" ")?;
     out.raw(text)?;
     writeln!(out, ": {}", answer.display())
 }
