@@ -48,6 +48,9 @@ impl Order for ByFault {
     ghost laws = { lexical_laws rank_of minute_of };
 
     fn is_before(&self, one: u64, other: u64) -> bool {
-        (rank(one), minute(one)) < (rank(other), minute(other))
+        // and not as pairs, for which both minutes are worked out even where the ranks differ
+        let first = rank(one);
+        let second = rank(other);
+        first < second || (first == second && minute(one) < minute(other))
     }
 }

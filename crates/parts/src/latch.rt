@@ -37,6 +37,7 @@ impl<F: Copy> Latch<F> {
     pub fn fault(&self) -> Option<F>
         ensures { result ≡ self.now.first }
     {
-        self.first
+        let Latch { first } = *self;
+        first
     }
 }

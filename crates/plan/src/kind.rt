@@ -36,9 +36,10 @@ pub trait Kind: Sized {
     fn begin(words: &mut Words<'_>) -> Result<Self, Reason>
         ensures { result ≡ reading.begun (left words.old) };
 
-    // What another line says, alterations apart.
+    // What another line says, alterations apart. Its first word stays.
     fn line(said: &mut Statement<'_>) -> Result<Line<Self::Setting, Self::Call>, Reason>
-        ensures { result ≡ reading.said said.old.name.now (left said.old.words) };
+        ensures says { result ≡ reading.said said.old.name.now (left said.old.words) }
+        ensures name { said.new.name ≡ said.old.name };
 
     // Whether such a setting was given.
     fn has(&self, setting: Self::Setting) -> bool

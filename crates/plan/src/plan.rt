@@ -50,9 +50,10 @@ impl<'a, K: Kind> Plan<'a, K> {
         })
     }
 
-    // What a line says.
+    // What a line says. Its first word stays, here and in the calls below.
     pub fn read(said: &mut Statement<'_>) -> Result<Line<K::Setting, K::Call>, Reason>
-        ensures { result ≡ line_said K.Kind.reading said.old.name.now (left said.old.words) }
+        ensures says { result ≡ line_said K.Kind.reading said.old.name.now (left said.old.words) }
+        ensures name { said.new.name ≡ said.old.name }
     {
         if is(said.name, "alter") {
             Ok(Line::Alters(alteration(&mut said.words)?))
@@ -88,7 +89,8 @@ impl<'a, K: Kind> Plan<'a, K> {
 
     // What a line says here.
     pub fn line(&self, said: &mut Statement<'_>) -> Result<Line<K::Setting, K::Call>, Reason>
-        ensures { result ≡ read_line K.Kind.reading self.now said.old.name.now (left said.old.words) }
+        ensures says { result ≡ read_line K.Kind.reading self.now said.old.name.now (left said.old.words) }
+        ensures name { said.new.name ≡ said.old.name }
     {
         let line = Self::read(said)?;
         self.admit(line)?;
@@ -114,7 +116,8 @@ impl<'a, K: Kind> Plan<'a, K> {
         said: &mut Statement<'_>,
         text: &'a [u8],
     ) -> Result<Result<(), Reason>, AllocError>
-        ensures { IfOk result (λ t. Takes K.Kind.reading (read_line K.Kind.reading self.old said.old.name.now (left said.old.words)) self.old text.entry self.new t) }
+        ensures takes { IfOk result (λ t. Takes K.Kind.reading (read_line K.Kind.reading self.old said.old.name.now (left said.old.words)) self.old text.entry self.new t) }
+        ensures name { said.new.name ≡ said.old.name }
     {
         match self.line(said) {
             Ok(line) => self.add(line, text)?,

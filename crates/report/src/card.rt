@@ -22,8 +22,14 @@ impl fmt::Display for Text {
             Answer::Written => write!(f, "written"),
             Answer::Value(value) => write!(f, "value {value}"),
             Answer::Passed => write!(f, "passed"),
-            Answer::Declined(fault) => write!(f, "declined {}", Declined(fault)),
-            Answer::Failed(fault) => write!(f, "fault {}", Found(fault)),
+            Answer::Declined(fault) => {
+                f.write_str("declined ")?;
+                Declined(fault).fmt(f)
+            }
+            Answer::Failed(fault) => {
+                f.write_str("fault ")?;
+                Found(fault).fmt(f)
+            }
         }
     }
 }

@@ -5,7 +5,8 @@ ghost use Rattle.report.specs.Shown.{shown_cause, shown_decline, shown_fault, sh
 use parts::fault::{Cause, Fault};
 use std::fmt;
 
-// The cause's number, and its name in brackets.
+// The cause's number, and its name in brackets. This and the next two, which are in the line of each call that is declined or answered a
+// fault, are put together piece by piece, their numbers by itoa: by `write!` a run of such calls took up to a third longer.
 #[derive(Clone, Copy)]
 pub struct Numbered(pub Cause);
 
@@ -13,9 +14,11 @@ impl fmt::Display for Numbered {
     ghost output = { λ cause. Some (shown_cause cause.0) };
 
     fn fmt<W: fmt::Write>(&self, f: &mut fmt::Formatter<W>) -> fmt::Result {
-        let cause = self.0;
-        let number = u8::from(cause);
-        write!(f, "{number} ({cause})")
+        let Numbered(cause) = *self;
+        f.write_str(itoa::Buffer::new().format(u8::from(cause)))?;
+        f.write_str(" (")?;
+        f.write_str(cause.name())?;
+        f.write_str(")")
     }
 }
 
@@ -27,9 +30,10 @@ impl fmt::Display for Declined {
     ghost output = { λ declined. Some (shown_decline declined.0) };
 
     fn fmt<W: fmt::Write>(&self, f: &mut fmt::Formatter<W>) -> fmt::Result {
-        let cause = Numbered(self.0.cause);
-        let place = self.0.place;
-        write!(f, "{cause} at {place}")
+        let Declined(declined) = *self;
+        Numbered(declined.cause).fmt(f)?;
+        f.write_str(" at ")?;
+        f.write_str(itoa::Buffer::new().format(declined.place))
     }
 }
 
@@ -41,10 +45,12 @@ impl fmt::Display for Found {
     ghost output = { λ found. Some (shown_fault found.0) };
 
     fn fmt<W: fmt::Write>(&self, f: &mut fmt::Formatter<W>) -> fmt::Result {
-        let cause = Numbered(self.0.cause);
-        let height = self.0.height;
-        let place = self.0.place;
-        write!(f, "{cause} height {height} at {place}")
+        let Found(found) = *self;
+        Numbered(found.cause).fmt(f)?;
+        f.write_str(" height ")?;
+        f.write_str(itoa::Buffer::new().format(found.height))?;
+        f.write_str(" at ")?;
+        f.write_str(itoa::Buffer::new().format(found.place))
     }
 }
 

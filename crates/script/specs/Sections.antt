@@ -46,6 +46,11 @@ abbrev pub Took : ℕ → List ℕ → List (List ℕ) → Bor (List ℕ) → Ou
 Took line name ws text (Ok (Card plan)) after = CardTook line (read_line card_reading plan name ws) plan text after
 Took line name ws text (Err bad) after = after ≡ Err bad
 
+-- the section that took in a line, or the line that spoilt it
+abbrev pub taken_in : Result (Unit {0}) BadLine → Section → Outcome
+taken_in (Ok v) section = Ok section
+taken_in (Err bad) section = Err bad
+
 abbrev pub comment : List ℕ → Bool
 comment [] = false
 comment (b ∷ bs) = b == 35

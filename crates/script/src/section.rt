@@ -3,7 +3,7 @@ ghost use Rattle.std.specs.Prelude.{◌≡◌, true, false, [], Ok, IfOk, MatchO
 ghost use Rattle.words.specs.Taken.{left};
 ghost use Rattle.words.specs.Words.{words, lines};
 ghost use Rattle.script.specs.Cards.{card_said};
-ghost use Rattle.script.specs.Sections.{begins, bad_line, Begun, Took, comment, Goes, LineTook, ScriptTook};
+ghost use Rattle.script.specs.Sections.{begins, bad_line, Begun, Took, taken_in, comment, Goes, LineTook, ScriptTook};
 
 use super::card::Card;
 use plan::plan::Plan;
@@ -56,17 +56,29 @@ impl<'a> Section<'a> {
         }
     }
 
-    // The section after a line that goes to it; one that makes no sense spoils it, and want of memory ends the reading.
-    fn after(self, line: &mut Line<'a>) -> Result<Outcome<'a>, AllocError>
-        ensures { IfOk result (λ after. Took line.old.number line.old.said.name.now (left line.old.said.words) line.old.text (Ok self.entry) after) }
+    // Takes in a line that goes to the section, in place, unless it makes no sense; want of memory ends the reading.
+    fn take(&mut self, line: &mut Line<'a>) -> Result<Result<(), BadLine>, AllocError>
+        ensures { IfOk result (λ taken. Took line.old.number line.old.said.name.now (left line.old.said.words) line.old.text (Ok self.old) (taken_in taken self.new)) }
     {
         match self {
-            Section::Card(mut plan) => match plan.take(&mut line.said, line.text)? {
-                Ok(()) => Ok(Ok(Section::Card(plan))),
+            Section::Card(plan) => match plan.take(&mut line.said, line.text)? {
+                Ok(()) => Ok(Ok(())),
                 Err(reason) => Ok(Err(line.bad(reason))),
             },
         }
     }
+}
+
+// Hands a line to a section; one that makes no sense spoils it.
+fn hand_on<'a>(section: &mut Outcome<'a>, line: &mut Line<'a>) -> Result<(), AllocError>
+    ensures { OnOk result (Took line.old.number line.old.said.name.now (left line.old.said.words) line.old.text section.old section.new) }
+{
+    if let Ok(good) = section {
+        if let Err(bad) = good.take(line)? {
+            *section = Err(bad);
+        }
+    }
+    Ok(())
 }
 
 fn is_comment(name: &[u8]) -> bool
@@ -79,13 +91,13 @@ fn is_comment(name: &[u8]) -> bool
 fn go_on<'a>(sections: &mut Vec<Outcome<'a>>, line: &mut Line<'a>) -> Result<(), AllocError>
     ensures { OnOk result (Goes line.old.number line.old.said.name.now (left line.old.said.words) line.old.text sections.old.items sections.new.items) }
 {
-    let section = match sections.pop() {
-        Some(Ok(section)) => section.after(line)?,
-        Some(Err(bad)) => Err(bad),
-        None => Err(line.bad(Reason::NoSection)),
-    };
-    sections.push(section)?;
-    Ok(())
+    match sections.last_mut() {
+        Some(section) => hand_on(section, line),
+        None => {
+            sections.push(Err(line.bad(Reason::NoSection)))?;
+            Ok(())
+        }
+    }
 }
 
 // Takes in a line of the script, without the white space at its ends.
