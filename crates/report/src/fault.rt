@@ -6,7 +6,7 @@ use parts::fault::{Cause, Fault};
 use std::fmt;
 
 // The cause's number, and its name in brackets. This and the next two, which are in the line of each call that is declined or answered a
-// fault, are put together piece by piece, their numbers by itoa: by `write!` a run of such calls took up to a third longer.
+// fault, are put together piece by piece, their numbers by itoa: by `write!` a run of such calls took a sixth more instructions.
 #[derive(Clone, Copy)]
 pub struct Numbered(pub Cause);
 
