@@ -1,24 +1,19 @@
 -- The rows of a table's arrays, and the table on the way of a loop that raises its bounds.
-use Rattle.std.proofs.Common.{◌≡◌, ℕ, ◌+◌, ◌<◌, ◌≤◌, Bool, true, false, cond, ltb, List, get_or, replicate, is_some, length, take, Some, None, Option, sym, refl, ◌∙◌, arith}
+use Rattle.std.proofs.Common.{◌≡◌, ℕ, ◌+◌, ◌<◌, ◌≤◌, Bool, true, false, cond, ltb, List, get_or, replicate, is_some, Some, None, Option, sym, ◌∙◌, arith}
 use denote.Ref.{Bor}
 use denote.Param.Members.{Mut}
 use Rattle.std.proofs.iter.Yields.{nat_range_steps}
 use Rattle.std.specs.declared.ops.Range.{Range}
 use Rattle.std.specs.Iterator.{FindsItem}
 use Rattle.std.specs.Fn.{CalledAt}
-use Rattle.std.specs.List.{position, position_or_len}
-use Rattle.std.proofs.lemmas.List.Quantifiers.{position-Some}
-use Rattle.std.proofs.lemmas.List.Sums.{fails_before_first}
-use Rattle.std.proofs.lemmas.Option.{none-some}
-use Rattle.std.proofs.lemmas.Bool.{ltb-false}
 use Rattle.std.specs.Option.{MatchOption}
 use Rattle.std.proofs.lemmas.Iterator.{first_from_Range}
 use mathlib.Core.Path.{fun_ext}
-use Rattle.std.proofs.lemmas.List.{get_or_past, get_or-replicate, get_or-take, length-replicate, length-take-le}
+use Rattle.std.proofs.lemmas.List.{get_or_past, get_or-replicate, length-replicate}
 use Rattle.std.proofs.lemmas.Bool.Decides.{nat_tests}
 use Rattle.std.proofs.lemmas.Bool.{cases_lt}
 use Rattle.parts.specs.Queues.{most_tickets}
-use Rattle.queue_laws.specs.Tables.{Row, empty_table, with_row, first_below, first_waiting, raised_row, raised}
+use Rattle.queue_laws.specs.Tables.{Row, empty_table, with_row, first_below, raised_row, raised}
 use Rattle.queue_laws.proofs.Firsts.{first_here, first_absent}
 use Rattle.table.specs.declared.table.Table.{Table}
 use Rattle.table.specs.Rows.{row, rows}
@@ -46,29 +41,6 @@ first_found {f = f} p q n u r ran calls same =
     by (Some i) h =
         let lt : i < n = h.1 in
         sym (first_here p i n lt (first_absent p i (λ t l. same t (omega arith) ∙ h.3 t (omega arith) l)) (same i lt ∙ h.2))
-
-past : (k n : ℕ) (t : Bool) → ltb k n ≡ t → cond {A = Option ℕ} t (Some k) None ≡ None → n ≤ k
-past k n true p e = absurd (none-some k (sym e))
-past k n false p e = ltb-false k n p
-
--- the first flag that is set is at the first number below n that passes p, where the flags are p
-pub first_placed : (p : ℕ → Bool) (flags : List Bool) (n : ℕ) → length flags ≡ n → ((t : ℕ) → t < n → p t ≡ get_or flags t false) → position (λ flag. flag) flags ≡ first_below p n
-first_placed p flags n e same = by (position (λ flag. flag) flags) refl
-  where
-    by : (r : Option ℕ) → position (λ flag. flag) flags ≡ r → position (λ flag. flag) flags ≡ first_below p n
-    by None h =
-        let k = position_or_len (λ flag. flag) flags in
-        let le : length flags ≤ k = past k (length flags) (ltb k (length flags)) refl h in
-        h ∙ sym (first_absent p n (λ t lt. same t lt ∙ fails_before_first (λ flag. flag) flags t false (omega arith)))
-    by (Some i) h =
-        let at = position-Some (λ flag. flag) flags i false h in
-        let lt : i < n = omega (arith, at.0) in
-        h ∙ sym (first_here p i n lt (first_absent p i (λ t l. same t (omega arith) ∙ at.2 t l)) (same i lt ∙ at.1))
-
--- the first flag that is set among those of a table's tickets is that of the first waiting ticket
-pub first_flag : (T : Table) → T.tickets ≤ length T.waits → position (λ flag. flag) (take T.tickets T.waits) ≡ first_waiting (rows T) T.tickets
-first_flag T le = first_placed (λ t. is_some (rows T t)) (take T.tickets T.waits) T.tickets (length-take-le T.tickets T.waits le)
-    (λ t lt. has_row T t lt ∙ sym (get_or-take T.tickets T.waits t false lt))
 
 module _ (before : ℕ → ℕ → Bool) (key : ℕ) (R : ℕ → Option Row) where
   -- the bounds are raised of the tickets below n

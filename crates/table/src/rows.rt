@@ -1,6 +1,5 @@
 // The rows of a table.
 ghost use Rattle.std.specs.Prelude.{◌≡◌, ◌<◌, ◌≤◌, min, cond, Some, None, nat_lt};
-ghost use Rattle.std.specs.List.{position};
 ghost use Rattle.parts.specs.Queues.{most_tickets};
 ghost use Rattle.queue_laws.specs.Tables.{empty_table, with_row, fresh_row, waiting, first_waiting, raised_row, raised, offends, first_offender};
 ghost use Rattle.table.specs.Rows.{rows};
@@ -8,13 +7,6 @@ ghost use Rattle.table.specs.Rows.{rows};
 use super::table::Table;
 use parts::order::Order;
 use parts::queue::MOST_TICKETS;
-
-// Where the first flag that is set stands.
-fn first_set(flags: &[bool]) -> Option<usize>
-    ensures { result ≡ position (λ flag. flag) flags.now }
-{
-    flags.iter().position(|flag| *flag)
-}
 
 impl Table {
     // A table of so many tickets, at most 1,024, in which nothing waits.
@@ -88,8 +80,7 @@ impl Table {
     pub fn first_waiting(&self) -> Option<u64>
         ensures { result ≡ first_waiting (rows self.now) self.now.tickets }
     {
-        let t = first_set(&self.waits[..self.tickets as usize])?;
-        Some(t as u64)
+        (0..self.tickets).find(|&t| self.waits[t as usize])
     }
 
     // Whether the ticket waits with a key before its bound.
